@@ -1,0 +1,6 @@
+pub mod Ranges
+pub mod Bits
+pub mod Numbers
+pub mod MaskLaws
+pub mod Growth
+pub mod Writing

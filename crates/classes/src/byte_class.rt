@@ -1,0 +1,1 @@
+// A class of bytes: its maximal ranges, its comparisons, their cost.

@@ -1,0 +1,15 @@
+pub mod Walks
+pub mod Views
+pub mod Rename
+pub mod Merge
+pub mod Prune
+pub mod Marks
+pub mod Shape
+pub mod Alike
+pub mod Unpruned
+pub mod Reached
+pub mod Fits
+pub mod Words
+pub mod Flat
+pub mod Taken
+pub mod Promises

@@ -1,0 +1,146 @@
+-- What stands beyond the definitions: no equal states, readings alike, all reached. Assumes nothing.
+use mathlib.Core.Path.{_≡_, refl, sym, ap, subst, subst₂, _∙_}
+use mathlib.Core.Bool.{true}
+use mathlib.Core.List.{List, [], _∷_, _++_}
+use mathlib.Core.Option.{Option, none, some}
+use Prim.Native.Nat.{ℕ, zero, suc, _+_, _*_, _<_}
+use native.Mathlib.Omega.{arith}
+use lib.ListN.{length, getD}
+use Rattle.lists.proofs.Distinct.{Apart, apart-differ, apart-nil}
+use Rattle.lists.proofs.Numbering.{number-in}
+use Rattle.rules.specs.Table.{Table, tableOf, refusal}
+use Rattle.rules.specs.Graph.{State, Graph, blank, stateOf, same, FromRoot, stateWords, stateFrom, graphWords, graphBuffer, graphFrom, graphFits}
+use Rattle.rules.specs.Build.{build, buildFrom, emptyLeaves, unpruned, pruned, merged, reached, leafOf, edge}
+use Rattle.rules.specs.Read.{Bytes, Clean, late, onward, walk, startAt, tableWalker, graphWalker, readTable, readGraph}
+use Rattle.rules.proofs.Merge.{merged-apart, merged-path, merged-reads, rest, same-sound}
+use Rattle.rules.proofs.Prune.{pruned-path, pruned-reads, pruned-root}
+use Rattle.rules.proofs.Shape.{Shaped, few-leaves, few-states, legal-shaped}
+use Rattle.rules.proofs.Alike.{walks-alike}
+use Rattle.rules.proofs.Unpruned.{reached-start, un-facts}
+use Rattle.rules.proofs.Reached.{kept-reached, un-root, un-root-within}
+use Rattle.rules.proofs.Fits.{Fits, build-fits}
+use Rattle.rules.proofs.Words.{buffer-length, graph-back, state-back, words-taken}
+
+nil-cons : {A : Type 0} {x : A} {l : List A} → _≡_ {A = List A} (x ∷ l) [] → ⊥
+nil-cons e = let z : _≡_ {A = ℕ} 0 1 = cc in omega arith
+
+-- ---- no equal states
+
+build-apart : (t : Table) → Apart same same-sound (build t .graph .states)
+unfolding build
+build-apart t = go (t .start) (emptyLeaves t)
+  where
+    go : (o : Option ℕ) (l : List ℕ) → Apart same same-sound (buildFrom t o l .graph .states)
+    go none l = apart-nil
+    go (some s) (x ∷ l) = apart-nil
+    go (some s) [] = merged-apart (pruned (unpruned t s))
+
+-- of every table: two states of the finished graph that agree in accept, early, the 256 targets and the end target are one
+pub no-equal-states : (t : Table) (i j : ℕ) → i < j → j < length (build t .graph .states)
+    → stateOf (build t .graph) i .accept ≡ stateOf (build t .graph) j .accept
+    → stateOf (build t .graph) i .early ≡ stateOf (build t .graph) j .early
+    → stateOf (build t .graph) i .steps ≡ stateOf (build t .graph) j .steps → ⊥
+unfolding stateOf
+no-equal-states t i j h k a e s =
+    apart-differ same same-sound blank (build t .graph .states) (build-apart t) i j h k (λ x. record { steps = s x; accept = a x; early = e x })
+
+-- ---- what a build without errors is
+
+build-clean : (t : Table) → build t .errors ≡ [] → (s₀ : ℕ) × (t .start ≡ some s₀) × (build t .graph ≡ merged (pruned (unpruned t s₀)) .graph)
+unfolding build
+build-clean t no-error = go (t .start) refl (emptyLeaves t) refl
+  where
+    go : (o : Option ℕ) → t .start ≡ o → (l : List ℕ) → emptyLeaves t ≡ l
+        → (s₀ : ℕ) × (t .start ≡ some s₀) × (buildFrom t (t .start) (emptyLeaves t) .graph ≡ merged (pruned (unpruned t s₀)) .graph)
+    go none e l q = absurd (nil-cons (subst (λ (o : Option ℕ). buildFrom t o (emptyLeaves t) .errors ≡ []) e no-error))
+    go (some s) e (x ∷ l) q = absurd (nil-cons (subst₂ (λ (o : Option ℕ) (l : List ℕ). buildFrom t o l .errors ≡ []) e q no-error))
+    go (some s) e [] q = (s, e, λ i. buildFrom t (e i) (q i) .graph)
+
+-- ---- readings alike
+
+module _ (t : Table) (clean : Clean t) where
+  late-zero : (o : Option ℕ) → late o 0 none ≡ none
+  late-zero none = refl
+  late-zero (some l) = refl
+
+  -- a walk that starts at state 0 reads none
+  zero-walk : (text : List ℕ) → Bytes text → walk (tableWalker t) 0 0 none text ≡ none
+  unfolding tableWalker
+  zero-walk [] bytes = rw (clean .zero-steps 256 (omega arith)) (late-zero (leafOf t 0))
+  zero-walk (b ∷ text) bytes =
+      let h : b < 257 = let h′ : b < 256 = bytes 0 in omega arith in
+      rw (clean .zero-steps b h) (late-zero (leafOf t 0))
+
+  table-walk : (s₀ : ℕ) → t .start ≡ some s₀ → (text : List ℕ) → Bytes text → readTable t text ≡ walk (tableWalker t) s₀ 0 none text
+  unfolding readTable
+  table-walk s₀ st text bytes = ap (λ (o : Option ℕ). onward none (λ s. walk (tableWalker t) s 0 none text) (startAt o)) st ∙ go s₀
+    where
+      go : (s : ℕ) → onward none (λ s. walk (tableWalker t) s 0 none text) (edge s) ≡ walk (tableWalker t) s 0 none text
+      go zero = sym (zero-walk text bytes)
+      go (suc s) = refl
+
+  module _ (sh : Shaped t) where
+    unpruned-reads : (s₀ : ℕ) → t .start ≡ some s₀ → (text : List ℕ) → Bytes text → readTable t text ≡ readGraph (unpruned t s₀) text
+    unfolding readGraph
+    unpruned-reads s₀ st text bytes =
+        let (i, n) = number-in 0 (reached t s₀) s₀ (reached-start t sh s₀ st) in
+        table-walk s₀ st text bytes
+        ∙ walks-alike t (unpruned t s₀) _ (un-facts t sh s₀ st clean) text bytes s₀ i n
+        ∙ ap (λ (x : ℕ). walk (graphWalker (unpruned t s₀)) x 0 none text) (sym (un-root t sh s₀ st i n))
+
+    build-reads : (text : List ℕ) → Bytes text → readTable t text ≡ readGraph (build t .graph) text
+    build-reads text bytes =
+        let (s₀, st, e) = build-clean t (clean .no-error) in
+        let w = un-root-within t sh s₀ st in
+        unpruned-reads s₀ st text bytes
+        ∙ sym (pruned-reads (unpruned t s₀) w text)
+        ∙ sym (merged-reads (pruned (unpruned t s₀)) (pruned-root (unpruned t s₀) w) text)
+        ∙ ap (λ (g : Graph). readGraph g text) (sym e)
+
+    build-reached : (i : ℕ) → i < length (build t .graph .states) → FromRoot (build t .graph) i
+    build-reached =
+        let (s₀, st, e) = build-clean t (clean .no-error) in
+        let all = merged-path (pruned (unpruned t s₀)) (pruned-path (unpruned t s₀) (kept-reached t sh s₀ st clean)) in
+        subst (λ (g : Graph). (i : ℕ) → i < length (g .states) → FromRoot g i) (sym e) all
+
+-- of every legal clean table and every text: the table and the finished graph read alike
+pub readings-alike : (words : List ℕ) → refusal words ≡ 0 → Clean (tableOf words) → (text : List ℕ) → Bytes text
+    → readTable (tableOf words) text ≡ readGraph (build (tableOf words) .graph) text
+readings-alike words legal clean text bytes = build-reads (tableOf words) clean (legal-shaped words legal) text bytes
+
+-- of every legal clean table: every state of the finished graph is reached from its root
+pub all-reached : (words : List ℕ) → refusal words ≡ 0 → Clean (tableOf words) → (i : ℕ) → i < length (build (tableOf words) .graph .states)
+    → FromRoot (build (tableOf words) .graph) i
+all-reached words legal clean i h = build-reached (tableOf words) clean (legal-shaped words legal) i h
+
+-- ---- the same, of words
+
+module _ (words : List ℕ) (legal : refusal words ≡ 0) where
+  abbrev pub built : Graph
+  built = build (tableOf words) .graph
+
+  fits : Fits (getD words 2 0) (getD words 0 0) built
+  fits = build-fits words legal
+
+  -- the build's words, whatever follows them, are taken by refusal 12 and are read back as the graph
+  pub built-taken : (rest : List ℕ) → graphFits (graphWords built ++ rest) ≡ true
+  built-taken rest = words-taken (getD words 2 0) (getD words 0 0) (few-leaves words legal) (few-states words legal) built fits rest
+
+  pub built-back : (rest : List ℕ) → graphFrom (graphWords built ++ rest) ≡ built
+  built-back rest = graph-back (getD words 2 0) (getD words 0 0) (few-leaves words legal) (few-states words legal) built fits rest
+
+  pub built-length : length (graphBuffer (getD words 0 0) built) ≡ 2 + 258 * getD words 0 0
+  built-length = buffer-length (getD words 2 0) (getD words 0 0) (few-leaves words legal) (few-states words legal) built fits
+
+  -- no two states have the same 258 words
+  pub no-equal-words : (i j : ℕ) → i < j → j < length (built .states) → stateWords (stateOf built i) ≡ stateWords (stateOf built j) → ⊥
+  no-equal-words i j h k e =
+      let q : stateOf built i ≡ stateOf built j = sym (back i (omega arith)) ∙ ap stateFrom e ∙ back j k in
+      no-equal-states (tableOf words) i j h k (ap (λ (s : State). s .accept) q) (ap (λ (s : State). s .early) q) (ap (λ (s : State). s .steps) q)
+    where
+      back : (i : ℕ) → i < length (built .states) → stateFrom (stateWords (stateOf built i)) ≡ stateOf built i
+      back i h = state-back (getD words 2 0) (getD words 0 0) (few-leaves words legal) (few-states words legal) built fits i h
+
+  pub words-alike : Clean (tableOf words) → (rest text : List ℕ) → Bytes text
+      → readTable (tableOf words) text ≡ readGraph (graphFrom (graphWords built ++ rest)) text
+  words-alike clean rest text bytes = readings-alike words legal clean text bytes ∙ ap (λ (g : Graph). readGraph g text) (sym (built-back rest))

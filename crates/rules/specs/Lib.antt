@@ -1,0 +1,4 @@
+pub mod Table
+pub mod Graph
+pub mod Build
+pub mod Read

@@ -1,0 +1,96 @@
+-- The table that comes in (document 01, "The table that comes in"): its words taken apart once, and the refusals 1 to 7.
+-- Definitions only. They are total: of words that are refused, `tableOf` means nothing.
+use mathlib.Core.Bool.{Bool, true, false, _&&_, _||_}
+use mathlib.Core.List.{List, [], _∷_, map}
+use mathlib.Core.Option.{Option, none, some}
+use Prim.Native.Nat.{ℕ, zero, suc, _+_, _*_}
+use lib.Dec.{eqb, leb, ltb}
+use lib.ListN.{length, getD, take, drop}
+use Rattle.lists.specs.Lists.{allL, below, pieces}
+
+pub record Leaf : Type 0 where
+  pub priority : ℕ
+  pub empty : ℕ  -- 1: it can match empty text
+
+pub record Row : Type 0 where
+  pub steps : List ℕ  -- 257 targets: of the bytes 0 to 255, and at 256 of the end step
+  pub head : ℕ  -- of the match chain; 0: the chain is empty
+
+-- a match record; they are numbered from 1
+pub record Match : Type 0 where
+  pub leaf : ℕ
+  pub next : ℕ  -- 0: the chain ends
+
+pub record Table : Type 0 where
+  pub start : Option ℕ  -- none: no universal start
+  pub leaves : List Leaf
+  pub rows : List Row
+  pub matches : List Match
+
+-- ---- the words: n, start, m, r; then three a leaf, 258 a state, two a match record
+
+unfoldable pub tableOf : List ℕ → Table
+tableOf w =
+    let n = getD w 0 0 in
+    let start = getD w 1 0 in
+    let m = getD w 2 0 in
+    let r = getD w 3 0 in
+    record {
+      start = elim (eqb start 65535) [ true ↦ none | false ↦ some start ];
+      leaves = map (λ p. record { priority = getD p 0 0 + 65536 * getD p 1 0; empty = getD p 2 0 }) (pieces 3 m (drop 4 w));
+      rows = map (λ p. record { steps = take 257 p; head = getD p 257 0 }) (pieces 258 n (drop (4 + 3 * m) w));
+      matches = map (λ p. record { leaf = getD p 0 0; next = getD p 1 0 }) (pieces 2 r (drop (4 + 3 * m + 258 * n) w));
+    }
+
+-- ---- views
+
+unfoldable pub size : Table → ℕ
+size t = length (t .rows)
+
+unfoldable pub rowOf : Table → ℕ → Row
+rowOf t s = getD (t .rows) s (record { steps = []; head = 0 })
+
+-- the target of state s for byte c, or for the end step, c = 256
+unfoldable pub step : Table → ℕ → ℕ → ℕ
+step t s c = getD (rowOf t s .steps) c 0
+
+unfoldable pub leafAt : Table → ℕ → Leaf
+leafAt t l = getD (t .leaves) l (record { priority = 0; empty = 0 })
+
+-- record number i
+unfoldable pub matchOf : Table → ℕ → Match
+matchOf t zero = record { leaf = 0; next = 0 }
+matchOf t (suc i) = getD (t .matches) i (record { leaf = 0; next = 0 })
+
+-- ---- "Refused because of the input", 1 to 7
+
+-- record number i: "leaf is below m, its next is below its own number, and the leaf at next is greater"
+unfoldable pub matchFits : Table → ℕ → Bool
+matchFits t i =
+    let r = matchOf t i in
+    ltb (r .leaf) (length (t .leaves)) && (ltb (r .next) i && (eqb (r .next) 0 || ltb (r .leaf) (matchOf t (r .next) .leaf)))
+
+-- the conditions, in order
+unfoldable pub conditions : List ℕ → List Bool
+conditions w =
+    let n = getD w 0 0 in
+    let start = getD w 1 0 in
+    let m = getD w 2 0 in
+    let r = getD w 3 0 in
+    let t = tableOf w in
+    leb 4 (length w) ∷  -- 1
+    (leb 1 n && (leb n 1024 && (leb m 255 && leb r 4095))) ∷  -- 2
+    eqb (length w) (4 + 3 * m + 258 * n + 2 * r) ∷  -- 3
+    (ltb start n || eqb start 65535) ∷  -- 4
+    allL (λ l. leb (l .empty) 1) (t .leaves) ∷  -- 5
+    allL (λ row. allL (λ u. ltb u n) (row .steps)) (t .rows) ∷  -- 6
+    (allL (λ row. leb (row .head) r) (t .rows) && allL (λ i. matchFits t (suc i)) (below r)) ∷ []  -- 7
+
+-- "lowest number first": the number, from k, of the first condition that does not hold; 0 if all hold
+abbrev pub firstBroken : ℕ → List Bool → ℕ
+firstBroken k [] = 0
+firstBroken k (true ∷ l) = firstBroken (suc k) l
+firstBroken k (false ∷ l) = k
+
+unfoldable pub refusal : List ℕ → ℕ
+refusal w = firstBroken 1 (conditions w)
