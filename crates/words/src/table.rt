@@ -1,0 +1,35 @@
+// Where the words of a table stand. m and n are its numbers of leaves and states.
+ghost use mathlib.Core.Path.{_≡_};
+ghost use Prim.Native.Nat.{_<_};
+ghost use Rattle.words.specs.Places.{leafPlace, rowPlace, matchPlace};
+
+// The place of word c of leaf l: priority low half, high half, empty flag.
+pub fn leaf_place(l: usize, c: usize) -> usize
+    requires { ⌜ l < 65536 ⌝ }
+    requires { ⌜ c < 65536 ⌝ }
+    ensures { λ r. ⌜ r ≡ leafPlace l c ⌝ }
+{
+    4 + 3 * l + c
+}
+
+// The place of word c of state s: a byte's target, at 256 the end target, at 257 the head of the chain.
+pub fn row_place(m: usize, s: usize, c: usize) -> usize
+    requires { ⌜ m < 65536 ⌝ }
+    requires { ⌜ s < 65536 ⌝ }
+    requires { ⌜ c < 65536 ⌝ }
+    ensures { λ r. ⌜ r ≡ rowPlace m s c ⌝ }
+{
+    4 + 3 * m + 258 * s + c
+}
+
+// The place of word c, 0 or 1, of match record i, from 1.
+pub fn match_place(m: usize, n: usize, i: usize, c: usize) -> usize
+    requires { ⌜ m < 65536 ⌝ }
+    requires { ⌜ n < 65536 ⌝ }
+    requires { ⌜ i < 65536 ⌝ }
+    requires { ⌜ 0 < i ⌝ }
+    requires { ⌜ c < 65536 ⌝ }
+    ensures { λ r. ⌜ r ≡ matchPlace m n i c ⌝ }
+{
+    4 + 3 * m + 258 * n + 2 * (i - 1) + c
+}
