@@ -1,0 +1,1 @@
+// Refusals 1 to 7.

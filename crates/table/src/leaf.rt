@@ -1,0 +1,1 @@
+// Rule 3: the leaf of a state, or its tie.

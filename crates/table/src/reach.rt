@@ -1,0 +1,1 @@
+// Rule 2: the states reached from the start.
