@@ -67,3 +67,13 @@ pub fn fits(graph: &[u16]) -> bool
     }
     root < n
 }
+
+// Word c of state s.
+pub fn word(graph: &[u16], s: usize, c: usize) -> usize
+    requires { ⌜ s < 65536 ⌝ }
+    requires { ⌜ c < 65536 ⌝ }
+    requires { ⌜ graphPlace s c < length (now graph) ⌝ }
+    ensures { λ r. ⌜ (r ≡ getD (now (graph .entry)) (graphPlace s c) 0) × (r < 65536) ⌝ }
+{
+    crate::word(graph, place(s, c))
+}
