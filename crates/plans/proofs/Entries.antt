@@ -11,12 +11,12 @@ use lib.Seq.{take-all}
 use Rattle.rules.specs.Graph.{Graph, graphFrom, graphFits}
 use Rattle.rules.specs.Read.{Found, Reading, readGraph}
 use Rattle.graph.specs.Answers.{recorded}
-use Rattle.plans.specs.declared.scan.Answer.the-variants.{Token, Ended, Refused}
+use Rattle.plans.specs.declared.scan.Answer.the-variants.{Token, Gap, Ended, Refused}
+use Rattle.plans.specs.declared.scan.Entry.{Entry}
 use Rattle.plans.specs.declared.scan.Place.{Place}
 use Rattle.plans.specs.declared.scan.Place.the-variants.{Reading as ReadingAt, Ended as HasEnded}
 use Rattle.plans.specs.declared.scan.Scan.{Scan}
-use Rattle.plans.specs.declared.scan.Scanned.{Scanned}
-use Rattle.plans.specs.Scan.{readingAt, hasEnded, gapAt, fromReading, scanFrom, scanAt, scanOf, next}
+use Rattle.plans.specs.Scan.{readingAt, hasEnded, gapAt, entryOf, scannedBy, scanFrom, scanAt, scanOf, next}
 use Rattle.plans.proofs.Scans.{Upto, found, reads-upto}
 
 -- the part of a text from an offset on
@@ -24,16 +24,16 @@ pub part-is : (text : List ℕ) (at : ℕ) → take (length text - at) (drop at 
 part-is text at = take-all (length text - at) (drop at text) (let l = length-drop at text in omega arith)
 
 module _ (text : List ℕ) (at : ℕ) (R : Reading) (is : Bool) (leaf end : ℕ) (e : recorded is leaf end ≡ R) where
-  as-recorded : (b : Bool) → is ≡ b → fromReading text at R ≡ fromReading text at (recorded b leaf end)
-  as-recorded b q = ap (fromReading text at) (sym e) ∙ ap (λ (x : Bool). fromReading text at (recorded x leaf end)) q
+  as-recorded : (b : Bool) → is ≡ b → entryOf text at R ≡ entryOf text at (recorded b leaf end)
+  as-recorded b q = ap (entryOf text at) (sym e) ∙ ap (λ (x : Bool). entryOf text at (recorded x leaf end)) q
 
-  pub gives-none : is ≡ false → fromReading text at R ≡ gapAt text at
+  pub gives-none : is ≡ false → entryOf text at R ≡ gapAt text at
   gives-none q = as-recorded false q
 
-  pub gives-empty : is ≡ true → end ≡ 0 → fromReading text at R ≡ gapAt text at
+  pub gives-empty : is ≡ true → end ≡ 0 → entryOf text at R ≡ gapAt text at
   gives-empty q z = as-recorded true q ∙ rw (eq-eqb end 0 z)
 
-  pub gives-token : is ≡ true → (end ≡ 0 → ⊥) → fromReading text at R ≡ record { answer = Token leaf at (at + end); scan = readingAt (at + end) }
+  pub gives-token : is ≡ true → (end ≡ 0 → ⊥) → entryOf text at R ≡ record { token = true; leaf = leaf; end = at + end }
   gives-token q n = as-recorded true q ∙ rw (ne-eqb end 0 n)
 
 -- a token ends in the text
@@ -45,6 +45,14 @@ token-within g text at leaf end is h e q =
     go : Upto (length (drop at text)) (recorded true leaf end) → at + end ≤ length text
     go (found k) = let l = length-drop at text in omega arith
 
+-- ---- an entry as an answer
+
+pub by-token : (at : ℕ) (e : Entry) → e .token ≡ true → scannedBy at e ≡ record { answer = Token (e .leaf) at (e .end); scan = readingAt (e .end) }
+by-token at e q = rw q
+
+pub by-gap : (at : ℕ) (e : Entry) → e .token ≡ false → scannedBy at e ≡ record { answer = Gap at (e .end); scan = readingAt (e .end) }
+by-gap at e q = rw q
+
 -- ---- the four ways of a scan, by its place
 
 module _ (g : Graph) (text : List ℕ) (p : Place) where
@@ -54,7 +62,7 @@ module _ (g : Graph) (text : List ℕ) (p : Place) where
   pub scan-ends : (o : ℕ) → p ≡ ReadingAt o → o ≡ length text → scanAt g text p ≡ record { answer = Ended; scan = hasEnded }
   scan-ends o e q = ap (scanAt g text) e ∙ rw (le-ltb (length text) o (omega arith), scanAt) (rw (eq-eqb o (length text) q, scanFrom))
 
-  pub scan-goes : (o : ℕ) → p ≡ ReadingAt o → o ≤ length text → (o ≡ length text → ⊥) → scanAt g text p ≡ fromReading text o (readGraph g (drop o text))
+  pub scan-goes : (o : ℕ) → p ≡ ReadingAt o → o ≤ length text → (o ≡ length text → ⊥) → scanAt g text p ≡ scannedBy o (entryOf text o (readGraph g (drop o text)))
   scan-goes o e h n = ap (scanAt g text) e ∙ rw (le-ltb (length text) o h, scanAt) (rw (ne-eqb o (length text) n, scanFrom))
 
   pub scan-over : p ≡ HasEnded → scanAt g text p ≡ record { answer = Refused 16; scan = record { place = p } }

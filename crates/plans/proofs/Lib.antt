@@ -1,2 +1,4 @@
 pub mod Scans
 pub mod Entries
+pub mod Filling
+pub mod ListAnswers

@@ -12,8 +12,9 @@ use Rattle.lists.proofs.Bools.{Is, yes-is, no-is, is}
 use Rattle.rules.specs.Graph.{Graph, to, acceptOf, earlyOf, graphFrom, graphFits}
 use Rattle.rules.specs.Read.{Found, Reading, mark, late, onward, walk, graphWalker, readGraph}
 use Rattle.plans.specs.declared.scan.Answer.the-variants.{Token, Gap, Ended}
+use Rattle.plans.specs.declared.scan.Entry.{Entry}
 use Rattle.plans.specs.declared.scan.Scanned.{Scanned}
-use Rattle.plans.specs.Scan.{readingAt, hasEnded, gapLength, gapAt, fromReading, scanFrom, scanAt, scanOf, next}
+use Rattle.plans.specs.Scan.{readingAt, hasEnded, gapLength, gapAt, entryOf, scannedBy, scanFrom, scanAt, scanOf, next}
 
 -- ---- a reading ends in the text
 
@@ -78,23 +79,35 @@ pub data Step (text : List ℕ) (o : ℕ) : Scanned → Type 0 where
   a-gap : {e : ℕ} → o < e → e ≤ length text → Step text o (record { answer = Gap o e; scan = readingAt e })
   the-end : o ≡ length text → Step text o (record { answer = Ended; scan = hasEnded })
 
-gap-step : (text : List ℕ) (o : ℕ) → o < length text → Step text o (gapAt text o)
+-- an entry ends after it starts, and not past the text
+pub record Moves (text : List ℕ) (o : ℕ) (e : Entry) : Type 0 where
+  pub after : o < e .end
+  pub within : e .end ≤ length text
+
+gap-moves : (text : List ℕ) (o : ℕ) → o < length text → Moves text o (gapAt text o)
 unfolding gapLength
-gap-step text o h = let a : o < o + 1 = omega arith in let b : o + 1 ≤ length text = omega arith in a-gap a b
+gap-moves text o h = record { after = omega arith; within = omega arith }
 
-reading-step : (text : List ℕ) (o : ℕ) (r : Reading) → o < length text → Upto (length text - o) r → Step text o (fromReading text o r)
-reading-step text o none h u = gap-step text o h
-reading-step text o (some f) h (found k) = go (is (eqb (f .end) 0))
+reading-moves : (text : List ℕ) (o : ℕ) (r : Reading) → o < length text → Upto (length text - o) r → Moves text o (entryOf text o r)
+reading-moves text o none h u = gap-moves text o h
+reading-moves text o (some f) h (found k) = go (is (eqb (f .end) 0))
   where
-    go : Is (eqb (f .end) 0) → Step text o (fromReading text o (some f))
-    go (yes-is q) = rw q (gap-step text o h)
-    go (no-is q) =
-        let n : f .end ≡ 0 → ⊥ = eqb-false _ _ q in
-        let a : o < o + f .end = omega (arith, n) in
-        let b : o + f .end ≤ length text = omega arith in
-        rw q (a-token a b)
+    go : Is (eqb (f .end) 0) → Moves text o (entryOf text o (some f))
+    go (yes-is q) = rw q (gap-moves text o h)
+    go (no-is q) = let n : f .end ≡ 0 → ⊥ = eqb-false _ _ q in rw q (record { after = omega (arith, n); within = omega arith })
 
-scan-step : (g : Graph) (text : List ℕ) (o : ℕ) → o ≤ length text → Step text o (scanOf g text (readingAt o))
+pub entry-moves : (g : Graph) (text : List ℕ) (o : ℕ) → o < length text → Moves text o (entryOf text o (readGraph g (drop o text)))
+entry-moves g text o h =
+    reading-moves text o (readGraph g (drop o text)) h (subst (λ (m : ℕ). Upto m (readGraph g (drop o text))) (length-drop o text) (reads-upto g (drop o text)))
+
+entry-step : (text : List ℕ) (o : ℕ) (e : Entry) → Moves text o e → Step text o (scannedBy o e)
+entry-step text o e m = go (is (e .token))
+  where
+    go : Is (e .token) → Step text o (scannedBy o e)
+    go (yes-is q) = rw q (a-token (m .after) (m .within))
+    go (no-is q) = rw q (a-gap (m .after) (m .within))
+
+pub scan-step : (g : Graph) (text : List ℕ) (o : ℕ) → o ≤ length text → Step text o (scanOf g text (readingAt o))
 scan-step g text o h = go (is (ltb (length text) o)) (is (eqb o (length text)))
   where
     go : Is (ltb (length text) o) → Is (eqb o (length text)) → Step text o (scanOf g text (readingAt o))
@@ -103,8 +116,7 @@ scan-step g text o h = go (is (ltb (length text) o)) (is (eqb o (length text)))
     go (no-is p) (no-is q) =
         let n : o ≡ length text → ⊥ = eqb-false _ _ q in
         let l : o < length text = omega (arith, n) in
-        rw (p, scanAt) (rw (q, scanFrom)
-        (reading-step text o (readGraph g (drop o text)) l (subst (λ (m : ℕ). Upto m (readGraph g (drop o text))) (length-drop o text) (reads-upto g (drop o text)))))
+        rw (p, scanAt) (rw (q, scanFrom) (entry-step text o (entryOf text o (readGraph g (drop o text))) (entry-moves g text o l)))
 
 -- a scan that reads at an offset in the text, of a legal graph, is never refused, and moves on until it ends
 pub next-step : (graph text : List ℕ) (o : ℕ) → graphFits graph ≡ true → o ≤ length text → Step text o (next graph text (readingAt o))

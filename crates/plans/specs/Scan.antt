@@ -13,6 +13,7 @@ use Rattle.plans.specs.declared.scan.Place.the-variants.{Reading as Read
 use Rattle.plans.specs.declared.scan.Scan.{Scan}
 use Rattle.plans.specs.declared.scan.Answer.{Answer}
 use Rattle.plans.specs.declared.scan.Answer.the-variants.{Token, Gap, Ended, Refused}
+use Rattle.plans.specs.declared.scan.Entry.{Entry}
 use Rattle.plans.specs.declared.scan.Scanned.{Scanned}
 
 -- "It is either reading at an offset or ended"
@@ -37,22 +38,24 @@ scanTold (Refused n) = refusing n 4
 unfoldable pub gapLength : List ℕ → ℕ → ℕ
 gapLength text offset = 1
 
-abbrev pub gapAt : List ℕ → ℕ → Scanned
-gapAt text offset = let end = offset + gapLength text offset in record { answer = Gap offset end; scan = readingAt end }
+abbrev pub gapAt : List ℕ → ℕ → Entry
+gapAt text offset = record { token = false; leaf = 0; end = offset + gapLength text offset }
 
--- "A reading that is none or ends where it began gives a gap"; a token moves to its end
-abbrev pub fromReading : List ℕ → ℕ → Reading → Scanned
-fromReading text offset none = gapAt text offset
-fromReading text offset (some f) =
-    let end = offset + f .end in
-    cond (eqb (f .end) 0) (gapAt text offset) (record { answer = Token (f .leaf) offset end; scan = readingAt end })
+-- "A reading that is none or ends where it began gives a gap"
+abbrev pub entryOf : List ℕ → ℕ → Reading → Entry
+entryOf text offset none = gapAt text offset
+entryOf text offset (some f) = cond (eqb (f .end) 0) (gapAt text offset) (record { token = true; leaf = f .leaf; end = offset + f .end })
+
+-- "it gives a token (leaf, start, end) and moves to its end", or a gap
+abbrev pub scannedBy : ℕ → Entry → Scanned
+scannedBy offset e = record { answer = cond (e .token) (Token (e .leaf) offset (e .end)) (Gap offset (e .end)); scan = readingAt (e .end) }
 
 -- "From an offset below the length .."; "At the length it answers ended"
 abbrev pub scanFrom : Graph → List ℕ → ℕ → Scanned
 scanFrom g text offset =
     elim (eqb offset (length text)) [
       | true ↦ record { answer = Ended; scan = hasEnded }
-      | false ↦ fromReading text offset (readGraph g (drop offset text))
+      | false ↦ scannedBy offset (entryOf text offset (readGraph g (drop offset text)))
     ]
 
 -- 14: "scan offset past the text"; 16: "the scan has already answered ended"

@@ -2,4 +2,5 @@
 //
 // What each call answers is defined in specs/Scan.antt; that a scan moves on and ends is in proofs/Scans.antt.
 
+pub mod list;
 pub mod scan;

@@ -5,7 +5,7 @@ ghost use Prim.Native.Nat.{_<_};
 ghost use lib.ListN.{length, drop};
 ghost use Rattle.rules.specs.Graph.{graphFits, graphFrom};
 ghost use Rattle.rules.specs.Read.{readGraph};
-ghost use Rattle.plans.specs.Scan.{fresh, gapAt, fromReading, scanOf, next};
+ghost use Rattle.plans.specs.Scan.{fresh, gapAt, entryOf, scannedBy, scanOf, next};
 
 pub enum Place {
     Reading(usize),
@@ -30,25 +30,31 @@ pub struct Scanned {
     pub scan: Scan,
 }
 
+// A token or a gap that begins at a known offset: its end, and of a token the leaf.
+pub struct Entry {
+    pub token: bool,
+    pub leaf: usize,
+    pub end: usize,
+}
+
 // The gap at an offset below the length.
-fn gap(text: &[u8], at: usize) -> Scanned
+fn gap(text: &[u8], at: usize) -> Entry
     requires { ⌜ at < length (now text) ⌝ }
     ensures { λ r. ⌜ r ≡ gapAt (now (text .entry)) at ⌝ }
 {
     let end = at + 1;
-    Scanned {
-        answer: Answer::Gap(at, end),
-        scan: Scan {
-            place: Place::Reading(end),
-        },
+    Entry {
+        token: false,
+        leaf: 0,
+        end: end,
     }
 }
 
 // The token or gap at an offset below the length, of graph words that 12 takes.
-fn entry(graph: &[u16], text: &[u8], at: usize) -> Scanned
+pub fn read_entry(graph: &[u16], text: &[u8], at: usize) -> Entry
     requires { ⌜ graphFits (now graph) ≡ true ⌝ }
     requires { ⌜ at < length (now text) ⌝ }
-    ensures { λ r. ⌜ r ≡ fromReading (now (text .entry)) at (readGraph (graphFrom (now (graph .entry))) (drop at (now (text .entry)))) ⌝ }
+    ensures { λ r. ⌜ r ≡ entryOf (now (text .entry)) at (readGraph (graphFrom (now (graph .entry))) (drop at (now (text .entry)))) ⌝ }
 {
     let r = graph::read::walk(graph, &text[at..]);
     if !r.found {
@@ -58,11 +64,29 @@ fn entry(graph: &[u16], text: &[u8], at: usize) -> Scanned
         return gap(text, at);
     }
     let end = at + r.end;
+    Entry {
+        token: true,
+        leaf: r.leaf,
+        end: end,
+    }
+}
+
+// An entry that begins at an offset, as an answer, with the scan after it.
+fn scanned_by(at: usize, e: Entry) -> Scanned
+    ensures { λ r. ⌜ r ≡ scannedBy at e ⌝ }
+{
+    let next = Scan {
+        place: Place::Reading(e.end),
+    };
+    if e.token {
+        return Scanned {
+            answer: Answer::Token(e.leaf, at, e.end),
+            scan: next,
+        };
+    }
     Scanned {
-        answer: Answer::Token(r.leaf, at, end),
-        scan: Scan {
-            place: Place::Reading(end),
-        },
+        answer: Answer::Gap(at, e.end),
+        scan: next,
     }
 }
 
@@ -88,7 +112,7 @@ pub fn step(scan: Scan, graph: &[u16], text: &[u8]) -> Scanned
                     },
                 };
             }
-            entry(graph, text, at)
+            scanned_by(at, read_entry(graph, text, at))
         }
         Place::Ended => Scanned {
             answer: Answer::Refused(16),

@@ -10,10 +10,10 @@ use Rattle.rules.specs.Read.{readGraph}
 use Rattle.graph.specs.Answers.{recorded}
 use Rattle.plans.proofs.Entries.{part-is, gives-none, gives-empty, gives-token, token-within}
 use borrow.Author.Needs.{needs}
-use Rattle.plans.proofs.scan.entry.Statement.{statement}
-use Rattle.plans.proofs.scan.entry.Tie as tie
-use Rattle.plans.proofs.scan.entry.Reads as reads
-use Rattle.plans.proofs.scan.entry.Lts as lts
+use Rattle.plans.proofs.scan.read_entry.Statement.{statement}
+use Rattle.plans.proofs.scan.read_entry.Tie as tie
+use Rattle.plans.proofs.scan.read_entry.Reads as reads
+use Rattle.plans.proofs.scan.read_entry.Lts as lts
 use Rattle.graph.proofs.read.walk.Reads as walk-reads
 use Rattle.plans.proofs.scan.gap.Reads as gap-reads
 
@@ -72,8 +72,8 @@ returns-3 c =
     let r = at .walk .result in
     sym (gives-token (st .args .text .now) (st .args .at) _ (r .found) (r .leaf) (r .end) (walked at) (not-false (r .found) (c .before .before .before .if1 .left)) (c .before .if2 .left))
 
-pub entry-spec : {M : Type 1} → statement M
-entry-spec =
+pub read-entry-spec : {M : Type 1} → statement M
+read-entry-spec =
     tie.close
     (tie.spec
     sub-walk
