@@ -2,3 +2,4 @@ pub mod Scans
 pub mod Entries
 pub mod Filling
 pub mod ListAnswers
+pub mod EndToEnd

@@ -1,7 +1,7 @@
 -- A text scanned into a lent buffer: the answers of repeated calls of the scan, three words an entry. Definitions only.
 use mathlib.Core.Bool.{true, false, cond}
 use mathlib.Core.List.{List, [], _∷_, _++_, flatMap}
-use Prim.Native.Nat.{ℕ, zero, suc, _/_}
+use Prim.Native.Nat.{ℕ, zero, suc, _/_, _<_}
 use lib.ListN.{length, drop}
 use Rattle.lists.specs.Told.{Told, telling, refusing}
 use Rattle.rules.specs.Graph.{Graph, graphFrom, graphFits}
@@ -44,6 +44,12 @@ goOn more (Refused n) scan = record { entries = []; scan = scan }
 abbrev pub listFor : Graph → List ℕ → ℕ → Scan → Listing
 listFor g text zero scan = record { entries = []; scan = scan }
 listFor g text (suc k) scan = let a = scanOf g text scan in goOn (λ s. listFor g text k s) (a .answer) (a .scan)
+
+-- tokens and gaps that run end to end from a to b, none of them empty
+pub data EndToEnd : ℕ → ℕ → List Answer → Type 0 where
+  no-more : {a : ℕ} → EndToEnd a a []
+  token-first : {a e b leaf : ℕ} {rest : List Answer} → a < e → EndToEnd e b rest → EndToEnd a b (Token leaf a e ∷ rest)
+  gap-first : {a e b : ℕ} {rest : List Answer} → a < e → EndToEnd e b rest → EndToEnd a b (Gap a e ∷ rest)
 
 unfoldable pub listWords : Listing → List ℕ
 listWords l = flatMap entryWords (l .entries)
