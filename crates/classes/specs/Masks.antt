@@ -4,7 +4,7 @@ use mathlib.Core.List.{List, [], _∷_, _++_, map}
 use Prim.Native.Nat.{ℕ, suc, _+_, _*_, _-_, _/_, _%_, _^_, min}
 use lib.Dec.{eqb, leb, ltb}
 use lib.ListN.{length, getD, take, drop, replicate}
-use Rattle.lists.specs.Lists.{tab}
+use Rattle.lists.specs.Lists.{tab, eqList}
 use Rattle.lists.specs.Told.{Told, telling, refusing}
 use Rattle.classes.specs.Classes.{Class}
 use Rattle.classes.specs.declared.masks.MaskStore.{MaskStore}
@@ -41,10 +41,7 @@ held s = tab 0 (s .count) (classAt (s .tables))
 -- ---- lists of classes
 
 abbrev pub sameClass : Class → Class → Bool
-sameClass [] [] = true
-sameClass [] (y ∷ d) = false
-sameClass (x ∷ c) [] = false
-sameClass (x ∷ c) (y ∷ d) = elim (Bool·beq x y) [ true ↦ sameClass c d | false ↦ false ]
+sameClass = eqList Bool·beq
 
 -- the number of a class: that of the first that equals it; the next free one if none does
 abbrev pub numberOf : List Class → Class → ℕ
@@ -93,6 +90,10 @@ unfoldable pub grown : MaskStore → List Class → MaskStore
 grown s cs =
     let all = heldWith s cs in
     record { tables = writtenAll (s .tables) (s .count) (drop (s .count) all); count = length all }
+
+-- a store of these tables and this count
+abbrev pub storeOf : List ℕ → ℕ → MaskStore
+storeOf tables count = record { tables = tables; count = count }
 
 -- ---- refusal 15: "mask store counts over 64 or repeats a class, or with the classes needed that it lacks would pass 64"
 
