@@ -1,24 +1,20 @@
 -- A store that has grown holds what it held and the classes met; the tables that are rendered, bit by bit. Assumes nothing.
 use mathlib.Core.Path.{_≡_, refl, sym, ap, _∙_}
-use mathlib.Core.Bool.{Bool, true, cond}
-use mathlib.Core.List.{List, [], _∷_, _++_, map, append-assoc}
-use Prim.Native.Nat.{ℕ, zero, suc, _+_, _-_, _*_, _%_, _^_, _≤_, _<_}
-use native.Mathlib.Nat.{not-suc-le-zero, le-of-suc-le-suc, zero-mod}
+use mathlib.Core.Bool.{Bool, true}
+use mathlib.Core.List.{List, [], _∷_, _++_, append-assoc}
+use Prim.Native.Nat.{ℕ, zero, suc, _+_, _-_, _≤_, _<_}
+use native.Mathlib.Nat.{not-suc-le-zero, le-of-suc-le-suc}
 use native.Mathlib.Omega.{arith}
-use borrow.Author.Tests.{ltb-true, ltb-false, eqb-true, le-leb, eq-eqb, leb-true}
+use borrow.Author.Tests.{ltb-true, ltb-false, eqb-true, le-leb}
 use lib.Dec.{eqb, leb, ltb}
-use lib.ListN.{length, getD, drop, length-append, List·getD-map, List·getD-append}
+use lib.ListN.{length, getD, drop, length-append, List·getD-append}
 use lib.Seq.{drop-at, getD-append-add, ext-getD}
 use Rattle.lists.specs.Lists.{allL}
-use Rattle.lists.proofs.Elements.{getD-tab}
 use Rattle.lists.proofs.Bools.{and-both, and-intro, Is, yes-is, no-is, is}
 use Rattle.classes.specs.Classes.{Class}
 use Rattle.classes.specs.declared.masks.MaskStore.{MaskStore}
-use Rattle.classes.specs.declared.masks.AddAnswer.the-variants.{Number}
-use Rattle.classes.specs.declared.masks.Added.{Added}
-use Rattle.classes.specs.Masks.{add, bit, tableAt, classAt, held, heldWith, numberOf, among, met, written, writtenAll, grown, allowed, takes, noneTwice, usedIn, luts}
-use Rattle.classes.proofs.Bits.{bit-mod-below, bit-mod-above}
-use Rattle.classes.proofs.Numbers.{Grows, met-append, met-split, met-grows, met-all, met-has, met-once, number-most, number-at, number-back, number-here, same-self}
+use Rattle.classes.specs.Masks.{classAt, held, heldWith, numberOf, among, met, written, writtenAll, grown, allowed, noneTwice}
+use Rattle.classes.proofs.Numbers.{Grows, met-append, met-split, met-grows, met-all, met-has, met-once, number-at}
 use Rattle.classes.proofs.MaskLaws.{length-held, held-at, length-written, class-own, class-other}
 
 -- the class has 256 flags

@@ -1,15 +1,14 @@
 -- The rendered tables: entry by entry, and bit by bit. Assumes nothing.
-use mathlib.Core.Path.{_≡_, refl, sym, ap, _∙_}
-use mathlib.Core.Bool.{Bool, true, false, cond}
+use mathlib.Core.Path.{_≡_, sym, ap, _∙_}
+use mathlib.Core.Bool.{true, false, cond}
 use mathlib.Core.List.{List, [], map}
 use Prim.Native.Nat.{ℕ, _+_, _*_, _%_, _^_, _≤_, _<_}
 use native.Mathlib.Nat.{zero-mod}
 use native.Mathlib.Omega.{arith}
 use borrow.Author.Tests.{ltb-true, ltb-false}
-use lib.Dec.{eqb, ltb}
+use lib.Dec.{ltb}
 use lib.ListN.{length, getD, drop, length-map, length-drop, replicate, List·getD-map}
 use lib.Seq.{length-take-le}
-use Rattle.lists.specs.Lists.{tab}
 use Rattle.lists.proofs.Elements.{length-tab, getD-tab0}
 use Rattle.lists.proofs.Bools.{Is, yes-is, no-is, is}
 use Rattle.lists.proofs.Grid.{entry, Shape, grid-ext}

@@ -1,13 +1,13 @@
 -- A class looked for among the masks i, .., n - 1, and a class that stands twice among them: one law for each way through a search. Assumes nothing.
-use mathlib.Core.Path.{_≡_, refl, sym, ap, _∙_}
-use mathlib.Core.Bool.{Bool, true, false, not, _&&_, Bool·beq, false≢true}
+use mathlib.Core.Path.{_≡_, sym, ap, _∙_}
+use mathlib.Core.Bool.{Bool, true, false, Bool·beq, false≢true}
 use mathlib.Core.List.{List, [], _∷_}
 use Prim.Native.Nat.{ℕ, suc, _+_, _-_, _/_, _%_, _≤_, _<_}
 use native.Mathlib.Nat.{sub-zero, zero-add}
 use native.Mathlib.Numerals.{add-one}
 use native.Mathlib.Omega.{arith}
 use borrow.Author.Tests.{lt-ltb, le-ltb, lt-leb, le-leb, leb-true}
-use lib.ListN.{length, getD, length-map}
+use lib.ListN.{length, length-map}
 use lib.Seq.{ext-getD}
 use Rattle.lists.specs.Lists.{tab}
 use Rattle.lists.proofs.Elements.{length-tab}
@@ -15,7 +15,7 @@ use Rattle.lists.proofs.Bools.{and-both, Is, yes-is, no-is, is}
 use Rattle.classes.specs.Classes.{Class, has}
 use Rattle.classes.specs.declared.masks.MaskStore.{MaskStore}
 use Rattle.classes.specs.Masks.{isSet, tableAt, maskHas, classAt, held, sameClass, numberOf, among, noneTwice, allowed}
-use Rattle.classes.proofs.Numbers.{beq-sound, same-eq, same-self, number-here, number-later, number-most}
+use Rattle.classes.proofs.Numbers.{beq-sound, same-eq, same-self, number-here, number-later}
 use Rattle.classes.proofs.MaskLaws.{mask-class, table-length}
 
 -- the classes of masks i, .., n - 1

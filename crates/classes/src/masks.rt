@@ -1,12 +1,15 @@
-// The mask store: eight tables of 256 bytes. Mask i is bit i mod 8 of table i / 8.
+// The mask store (document 01, "Edges, costs, masks"): up to 64 classes as bits of eight tables of 256 bytes, each class once, under the number
+// with which it was first met. Mask i is bit i mod 8 of table i / 8. A store comes from outside and may be anything: the public calls
+// `add_by_value`, `add_test_to_lut`, `add_by_loan` and `render_luts` answer 15 where document 01 refuses it. The other functions are for the
+// layers above, which know what they ask: an array behind a reference carries no length into a proof, so they are told it.
 ghost use mathlib.Core.Path.{_≡_};
 ghost use mathlib.Core.Bool.{true};
-ghost use Prim.Native.Nat.{ℕ, _+_, _-_, _*_, _%_, _^_, _<_, _≤_};
+ghost use Prim.Native.Nat.{_+_, _-_, _%_, _^_, _<_, _≤_};
 ghost use lib.ListN.{length};
 ghost use Rattle.lists.specs.Lists.{tab};
-ghost use Rattle.classes.specs.Masks.{isSet, maskHas, classAt, numberOf, withBit, written, storeOf, allowed, add, usedIn, render};
+ghost use Rattle.classes.specs.Masks.{isSet, maskHas, classAt, numberOf, withBit, written, storeOf, allowed, refusedWith, add, usedIn, render};
 
-// The tables stand one after another; entry 256 t + b is that of byte b in table t. Bits of masks from `count` on mean nothing.
+// The tables stand one after another: entry 256 t + b is that of byte b in table t. Bits of masks from `count` on mean nothing.
 pub struct MaskStore {
     pub tables: [u8; 2048],
     pub count: usize,
@@ -23,6 +26,8 @@ pub struct Added {
     pub answer: AddAnswer,
     pub store: MaskStore,
 }
+
+// ---- one bit
 
 // Whether bit k of the word is set.
 pub fn test_bit(word: u8, k: usize) -> bool
@@ -44,6 +49,8 @@ pub fn with_bit(word: u8, k: usize, flag: bool) -> u8
     }
 }
 
+// ---- one mask
+
 // Whether mask i has the byte.
 pub fn mask_has(tables: &[u8; 2048], i: usize, byte: u8) -> bool
     requires { ⌜ i < 64 ⌝ }
@@ -64,7 +71,22 @@ pub fn class_at(tables: &[u8; 2048], i: usize) -> [bool; 256]
     class
 }
 
-// The first of masks `from`, .., `count` - 1 that is this class, or `count`. A mask is left at its first unequal byte.
+// The class is written as mask i: 0 or 1 for each byte, and no other bit.
+pub fn write_mask(tables: &mut [u8; 2048], i: usize, class: &[bool; 256])
+    requires { ⌜ (i < 64) × (length (now tables) ≡ 2048) × (length (now class) ≡ 256) ⌝ }
+    ensures { λ _. ⌜ now (tables .exit) ≡ written (now (tables .entry)) i (now (class .entry)) ⌝ }
+{
+    let base = 256 * (i / 8);
+    let k = i % 8;
+    for b in 0..256 {
+        let j = base + b;
+        tables[j] = with_bit(tables[j], k, class[b]);
+    }
+}
+
+// ---- all masks
+
+// The first of masks `from`, .., `count` - 1 that is this class, or `count`. Each is left at its first unequal byte.
 pub fn number_from(tables: &[u8; 2048], from: usize, count: usize, class: &[bool; 256]) -> usize
     requires { ⌜ (from ≤ count) × (count ≤ 64) × (length (now tables) ≡ 2048) × (length (now class) ≡ 256) ⌝ }
     ensures { λ r. ⌜ r ≡ from + numberOf (tab from (count - from) (classAt (now (tables .entry)))) (now (class .entry)) ⌝ }
@@ -80,7 +102,8 @@ pub fn number_from(tables: &[u8; 2048], from: usize, count: usize, class: &[bool
     count
 }
 
-// Whether 15 allows the store: at most 64 masks, and none twice.
+// Whether 15 allows the store: it counts at most 64 classes, and none stands twice. At most 2,016 pairs of masks are compared, each up to its first
+// unequal byte.
 pub fn allowed(tables: &[u8; 2048], count: usize) -> bool
     requires { ⌜ length (now tables) ≡ 2048 ⌝ }
     ensures { λ r. ⌜ r ≡ allowed (storeOf (now (tables .entry)) count) ⌝ }
@@ -97,20 +120,19 @@ pub fn allowed(tables: &[u8; 2048], count: usize) -> bool
     true
 }
 
-// The class is written as mask i: 0 or 1 for each byte, and no other bit.
-pub fn write_mask(tables: &mut [u8; 2048], i: usize, class: &[bool; 256])
-    requires { ⌜ (i < 64) × (length (now tables) ≡ 2048) × (length (now class) ≡ 256) ⌝ }
-    ensures { λ _. ⌜ now (tables .exit) ≡ written (now (tables .entry)) i (now (class .entry)) ⌝ }
+// ---- adding a class
+
+// 15, and the store as it was.
+fn refused(as_found: MaskStore) -> Added
+    ensures { λ r. ⌜ r ≡ refusedWith as_found ⌝ }
 {
-    let base = 256 * (i / 8);
-    let k = i % 8;
-    for b in 0..256 {
-        let j = base + b;
-        tables[j] = with_bit(tables[j], k, class[b]);
+    Added {
+        answer: AddAnswer::Refused(15),
+        store: as_found,
     }
 }
 
-// The class added to a store that 15 allows, which is not checked again.
+// The class added to a store that is known to be allowed, as one is that was and has grown: what adds many classes asks once for all.
 pub fn with_class(store: MaskStore, class: [bool; 256]) -> Added
     requires { ⌜ allowed store ≡ true ⌝ }
     ensures { λ r. ⌜ r ≡ add store class ⌝ }
@@ -133,10 +155,7 @@ pub fn with_class(store: MaskStore, class: [bool; 256]) -> Added
             },
         }
     } else {
-        Added {
-            answer: AddAnswer::Refused(15),
-            store: store,
-        }
+        refused(store)
     }
 }
 
@@ -146,14 +165,10 @@ pub fn add_by_value(store: MaskStore, class: [bool; 256]) -> Added
 {
     let tables = store.tables;
     let count = store.count;
-    if allowed(&tables, count) {
-        with_class(store, class)
-    } else {
-        Added {
-            answer: AddAnswer::Refused(15),
-            store: store,
-        }
+    if !allowed(&tables, count) {
+        return refused(store);
     }
+    with_class(store, class)
 }
 
 // The same on a store that is lent, and grows in the call.
@@ -165,7 +180,7 @@ pub fn add_test_to_lut(store: &mut MaskStore, class: [bool; 256]) -> AddAnswer
     added.answer
 }
 
-// A store of one's own, lent for the call: what a program calls.
+// The same on a store of one's own, which is lent for the call: what a program calls.
 pub fn add_by_loan(store: MaskStore, class: [bool; 256]) -> Added
     ensures { λ r. ⌜ r ≡ add store class ⌝ }
 {
@@ -176,6 +191,8 @@ pub fn add_by_loan(store: MaskStore, class: [bool; 256]) -> Added
         store: lent,
     }
 }
+
+// ---- the tables
 
 // The n lowest bits of the word.
 pub fn low_bits(word: u8, n: usize) -> u8

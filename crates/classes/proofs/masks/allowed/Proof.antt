@@ -2,13 +2,11 @@
 -- measure is the number of these. Assumes nothing.
 use borrow.Author.Needs.{needs}
 use mathlib.Core.Path.{_≡_, refl, sym, ap, _∙_}
-use mathlib.Core.Bool.{Bool, true, false}
-use mathlib.Core.List.{List}
-use Prim.Native.Nat.{ℕ, _+_, _-_, _<_, _≤_}
+use Prim.Native.Nat.{_+_, _-_, _≤_}
 use native.Mathlib.Omega.{arith}
 use lib.ListN.{length}
 use Rattle.classes.specs.Classes.{Class}
-use Rattle.classes.specs.Masks.{classAt, numberOf, among, noneTwice, storeOf}
+use Rattle.classes.specs.Masks.{classAt, numberOf, noneTwice, storeOf}
 use Rattle.classes.proofs.Search.{masks, class-length, search-among, search-not, twice-here, twice-later, twice-none, allowed-over, allowed-is}
 use Rattle.classes.proofs.masks.allowed.Statement.{statement}
 use Rattle.classes.proofs.masks.allowed.Tie as tie

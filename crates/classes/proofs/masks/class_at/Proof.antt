@@ -1,11 +1,11 @@
 -- `masks::class_at` meets its contract. The loop's invariant: the flags below b are the mask's; the measure is what is left of the 256 bytes.
 -- Assumes nothing.
 use borrow.Author.Needs.{needs}
-use borrow.Author.Count.{below-none, below-more}
+use borrow.Author.Count.{below-more}
 use mathlib.Core.Path.{_≡_, _∙_}
 use mathlib.Core.Bool.{Bool, false}
 use mathlib.Core.List.{List}
-use Prim.Native.Nat.{ℕ, _+_, _-_, _<_, _≤_}
+use Prim.Native.Nat.{ℕ, _-_, _<_, _≤_}
 use native.Mathlib.Omega.{arith}
 use lib.ListN.{length, getD, set, length-set, length-replicate}
 use lib.Seq.{getD-set-same, getD-set-other}

@@ -1,10 +1,9 @@
 -- `masks::low_bits` meets its contract: a mask by 2 ^ n - 1 is a remainder by 2 ^ n, and a byte is below 2 ^ 8. Assumes nothing.
 use borrow.Author.Needs.{needs}
-use mathlib.Core.Path.{_≡_, sym, ap, _∙_}
-use Prim.Native.Nat.{ℕ, _-_, _%_, _^_, _<_}
+use mathlib.Core.Path.{_≡_, sym}
 use native.Mathlib.Nat.{mod-eq-of-lt}
 use native.Mathlib.Omega.{arith}
-use lib.Bits.{bitAnd, and-mask}
+use lib.Bits.{and-mask}
 use lib.Pow.{pow-pos}
 use Rattle.classes.proofs.Bits.{one-shl}
 use Rattle.classes.proofs.masks.low_bits.Statement.{statement}

@@ -2,14 +2,12 @@
 -- Each measure is what is left to fill. Assumes nothing.
 use borrow.Author.Needs.{needs}
 use borrow.Author.Tests.{not-true, not-false}
-use mathlib.Core.Path.{_≡_, refl, sym, ap, _∙_}
-use mathlib.Core.Bool.{true, false}
+use mathlib.Core.Path.{_≡_, sym, ap, _∙_}
 use mathlib.Core.List.{List}
 use Prim.Native.Nat.{ℕ, _+_, _-_, _*_, _%_, _^_, _<_, _≤_}
 use native.Mathlib.Omega.{arith}
-use lib.ListN.{length, getD, replicate}
+use lib.ListN.{getD}
 use Rattle.lists.proofs.Grid.{Shape, replicate-shape, put-shape, Rows, Row, rows-kept, row-more, rows-more}
-use Rattle.classes.specs.declared.masks.MaskStore.{MaskStore}
 use Rattle.classes.specs.Masks.{usedIn, allowed, Rendered}
 use Rattle.classes.proofs.Luts.{luts-are, render-allowed, render-not}
 use Rattle.classes.proofs.masks.render_luts.Statement.{statement}

@@ -1,13 +1,8 @@
 -- `masks::with_class` meets its contract: the search tells which of the cases of `add` it is. Assumes nothing.
 use borrow.Author.Needs.{needs}
-use mathlib.Core.Path.{_≡_, sym, ap, _∙_}
-use mathlib.Core.Bool.{true}
-use mathlib.Core.List.{List}
-use Prim.Native.Nat.{ℕ, _+_}
+use mathlib.Core.Path.{_≡_, sym, _∙_}
 use native.Mathlib.Omega.{arith}
 use Rattle.classes.specs.Masks.{held, numberOf}
-use Rattle.classes.specs.declared.masks.AddAnswer.the-variants.{Number}
-use Rattle.classes.specs.declared.masks.Added.{Added}
 use Rattle.classes.proofs.Search.{search-all, allowed-count}
 use Rattle.classes.proofs.Adding.{is-held, is-new, add-held, add-new, add-full}
 use Rattle.classes.proofs.masks.with_class.Statement.{statement}
@@ -46,15 +41,26 @@ returns-2 c =
     let new = is-new store class (omega (arith, number-is (c .before .before .before .before .before))) in
     rw (c .write-mask .ensures) (sym (add-new store class (start .pre) new (omega arith)))
 
+refused-requires : tie.Need-refused-requires
+refused-requires c κs = search needs
+
 returns-3 : tie.Need-returns-3
 returns-3 c =
-    let start = c .before .before .before .before .before .before in
+    let at = c .before in
+    let start = at .before .before .before .before .before .before in
     let store = start .args .store in
     let class = start .args .t2 in
-    let new = is-new store class (omega (arith, number-is (c .before .before))) in
-    sym (add-full store class (start .pre) new (omega arith))
+    let new = is-new store class (omega (arith, number-is (at .before .before))) in
+    c .refused .ensures ∙ sym (add-full store class (start .pre) new (omega arith))
 
 pub with-class-spec : {M : Type 1} → statement M
 with-class-spec =
     tie.close
-    (tie.spec number-from-requires write-mask-requires add-t19 returns returns-2 returns-3)
+    (tie.spec
+    number-from-requires
+    write-mask-requires
+    add-t19
+    refused-requires
+    returns
+    returns-2
+    returns-3)
