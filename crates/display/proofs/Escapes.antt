@@ -1,0 +1,24 @@
+-- The three ways in which a byte is written. Assumes nothing.
+use mathlib.Core.Path.{_≡_, refl, sym, ap, subst, _∙_}
+use mathlib.Core.Bool.{Bool, true, false, cond, _&&_}
+use mathlib.Core.List.{List, [], _∷_, _++_}
+use Prim.Native.Nat.{ℕ, _+_, _/_, _%_, _≤_, _<_}
+use native.Mathlib.Omega.{arith}
+use borrow.Author.Tests.{lt-ltb, le-ltb}
+use lib.Dec.{ltb, leb}
+use Rattle.display.specs.Text.{bytes, one}
+use Rattle.display.specs.Display.{hexDigit, letterOf, escaped}
+
+module _ (b l : ℕ) (is-letter : l ≡ letterOf b) where
+  pub escaped-letter : 0 < l → escaped b ≡ bytes "\\" ++ one l
+  unfolding escaped
+  escaped-letter h = rw (← is-letter, lt-ltb 0 l h)
+
+  module _ (h : l ≤ 0) where
+    pub escaped-plain : (leb 32 b && leb b 126) ≡ true → escaped b ≡ one b
+    unfolding escaped
+    escaped-plain p = rw (← is-letter, le-ltb 0 l h, p)
+
+    pub escaped-hex : (leb 32 b && leb b 126) ≡ false → escaped b ≡ bytes "\\x" ++ (one (hexDigit (b / 16)) ++ one (hexDigit (b % 16)))
+    unfolding escaped
+    escaped-hex p = rw (← is-letter, le-ltb 0 l h, p)

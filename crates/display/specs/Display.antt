@@ -1,0 +1,95 @@
+-- The text of a graph, as Rust's `Display` of `Graph`, `StateData`, `ByteClass` and `State` gives it, and the lines of the conflicts (document 01, K1 and
+-- the paragraph after it). Definitions only.
+use mathlib.Core.Bool.{Bool, true, false, cond, _&&_, _||_}
+use mathlib.Core.List.{List, [], _∷_, _++_, map}
+use mathlib.Core.Option.{Option, none, some}
+use Prim.Native.Nat.{ℕ, _+_, _/_, _%_}
+use Prim.Native.Char.{code}
+use Prim.Native.String.{String}
+use lib.Dec.{eqb, leb, ltb}
+use lib.ListN.{length, getD, take}
+use Rattle.lists.specs.Lists.{below, anyL, those, eqOption}
+use Rattle.rules.specs.Graph.{State, Graph, stateOf}
+use Rattle.rules.specs.Build.{Error, errorWords}
+use Rattle.classes.specs.Classes.{Class, Range, ranges}
+use Rattle.display.specs.Text.{bytes, one, decimal, joined}
+
+-- ---- a byte: "`escape_default` keeps bytes 32 to 126 but quotes and backslash, uses `\t \r \n \' \" \\`, else `\x` and two lower-case hex digits"
+
+abbrev pub hexDigit : ℕ → ℕ
+hexDigit d = cond (ltb d 10) (48 + d) (87 + d)
+
+-- the letter after the backslash, of a byte that is written so; 0 of another
+unfoldable pub letterOf : ℕ → ℕ
+letterOf b =
+    cond (eqb b (code "\t")) (code "t")
+    (cond (eqb b (code "\r")) (code "r")
+    (cond (eqb b (code "\n")) (code "n")
+    (cond (eqb b (code "'") || (eqb b (code "\"") || eqb b (code "\\"))) b 0)))
+
+unfoldable pub escaped : ℕ → List ℕ
+escaped b =
+    cond (ltb 0 (letterOf b)) (bytes "\\" ++ one (letterOf b))
+    (cond (leb 32 b && leb b 126) (one b)
+    (bytes "\\x" ++ (hexDigit (b / 16) ∷ hexDigit (b % 16) ∷ [])))
+
+-- ---- a class: its maximal ranges, a range of one byte as that byte
+
+unfoldable pub rangeText : Range → List ℕ
+rangeText r = cond (eqb (r .first) (r .last)) (escaped (r .first)) (escaped (r .first) ++ (bytes "..=" ++ escaped (r .last)))
+
+unfoldable pub classText : Class → List ℕ
+classText c = joined (bytes "|") (map rangeText (ranges c))
+
+-- ---- the byte edges of a state
+
+abbrev pub bytesOf : State → List (Option ℕ)
+bytesOf st = take 256 (st .steps)
+
+-- the class of the edge to u: the bytes that lead there
+unfoldable pub classTo : State → ℕ → Class
+classTo st u = map (eqOption (some u)) (bytesOf st)
+
+-- the targets of its edges, ascending, in a graph of n states
+unfoldable pub targets : ℕ → State → List ℕ
+targets n st = those (λ u. anyL (eqOption (some u)) (bytesOf st)) (below n)
+
+-- ---- a state: its marks, each class and target, EOI; one line each
+
+abbrev pub nameOf : ℕ → List ℕ
+nameOf s = bytes "state" ++ decimal s
+
+unfoldable pub markText : String → Option ℕ → List ℕ
+markText name none = []
+markText name (some leaf) = bytes name ++ (bytes "(" ++ (decimal leaf ++ bytes ") "))
+
+unfoldable pub firstLine : ℕ → State → List ℕ
+firstLine s st =
+    bytes "  " ++ (nameOf s ++ (bytes " => StateData(" ++ (markText "accept" (st .accept) ++ (markText "early" (st .early) ++ bytes ") {"))))
+
+unfoldable pub edgeLine : State → ℕ → List ℕ
+edgeLine st u = bytes "    " ++ (classText (classTo st u) ++ (bytes " => " ++ nameOf u))
+
+unfoldable pub endLines : Option ℕ → List (List ℕ)
+endLines none = []
+endLines (some u) = (bytes "    EOI => " ++ nameOf u) ∷ []
+
+-- state s, in a graph of n states
+unfoldable pub stateText : ℕ → ℕ → State → List ℕ
+stateText n s st =
+    joined (bytes "\n") (firstLine s st ∷ (map (edgeLine st) (targets n st) ++ (endLines (getD (st .steps) 256 none) ++ (bytes "  }" ∷ []))))
+
+-- ---- a graph: its states, ascending
+
+unfoldable pub displayed : Graph → List ℕ
+displayed g = let n = length (g .states) in joined (bytes "\n") (map (λ s. stateText n s (stateOf g s)) (below n))
+
+-- ---- a conflict: "one line an error, as `error 2 0 1` (kind, then leaves)", from its words: kind, leaf count, leaves
+
+unfoldable pub lineOf : List ℕ → List ℕ
+lineOf [] = []
+lineOf (kind ∷ []) = []
+lineOf (kind ∷ (count ∷ leaves)) = joined (bytes " ") (bytes "error" ∷ map decimal (kind ∷ take count leaves))
+
+unfoldable pub conflictLine : Error → List ℕ
+conflictLine e = lineOf (errorWords e)
