@@ -11,7 +11,7 @@ use lib.ListN.{length, getD, take}
 use Rattle.lists.specs.Lists.{below, anyL, those, eqOption}
 use Rattle.rules.specs.Graph.{State, Graph, stateOf}
 use Rattle.rules.specs.Build.{Error, errorWords}
-use Rattle.classes.specs.Classes.{Class, Range, ranges}
+use Rattle.classes.specs.Classes.{Class, ranges}
 use Rattle.display.specs.Text.{bytes, one, decimal, joined}
 
 -- ---- a byte: "`escape_default` keeps bytes 32 to 126 but quotes and backslash, uses `\t \r \n \' \" \\`, else `\x` and two lower-case hex digits"
@@ -35,11 +35,11 @@ escaped b =
 
 -- ---- a class: its maximal ranges, a range of one byte as that byte
 
-unfoldable pub rangeText : Range → List ℕ
-rangeText r = cond (eqb (r .first) (r .last)) (escaped (r .first)) (escaped (r .first) ++ (bytes "..=" ++ escaped (r .last)))
+unfoldable pub rangeText : ℕ → ℕ → List ℕ
+rangeText first last = cond (eqb first last) (escaped first) (escaped first ++ (bytes "..=" ++ escaped last))
 
 unfoldable pub classText : Class → List ℕ
-classText c = joined (bytes "|") (map rangeText (ranges c))
+classText c = joined (bytes "|") (map (λ r. rangeText (r .first) (r .last)) (ranges c))
 
 -- ---- the byte edges of a state
 

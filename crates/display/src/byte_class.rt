@@ -2,7 +2,7 @@
 ghost use mathlib.Core.Path.{_≡_};
 ghost use Prim.Native.Nat.{_<_};
 ghost use Rattle.display.specs.Text.{Wrote, Counts};
-ghost use Rattle.display.specs.Display.{hexDigit, letterOf, escaped};
+ghost use Rattle.display.specs.Display.{hexDigit, letterOf, escaped, rangeText};
 use crate::put;
 
 // The letter after the backslash, of a byte that is written so; 0 of another.
@@ -40,4 +40,17 @@ pub fn escape_default(out: &mut [u8], at: usize, b: u8) -> usize
     }
     let next = put::pair(out, at, b'\\', b'x');
     put::pair(out, next, hex_digit(b / 16), hex_digit(b % 16))
+}
+
+// A range: its first byte, and its last if that is another.
+pub fn range(out: &mut [u8], at: usize, first: u8, last: u8) -> usize
+    requires { ⌜ Counts at (rangeText first last) ⌝ }
+    ensures { λ r. ⌜ Wrote (now (out .entry)) at (rangeText first last) (now (out .exit)) r ⌝ }
+{
+    if first == last {
+        return escape_default(out, at, first);
+    }
+    let next = escape_default(out, at, first);
+    let next = put::text(out, next, b"..=");
+    escape_default(out, next, last)
 }
