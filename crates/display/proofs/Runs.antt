@@ -1,6 +1,6 @@
 -- A text written after another is both, written in a row; there is a number for the place after it. Assumes nothing.
 use mathlib.Core.Path.{_≡_, refl, sym, ap, subst, _∙_}
-use mathlib.Core.List.{List, [], _∷_, _++_}
+use mathlib.Core.List.{List, [], _∷_, _++_, append-assoc, append-nil}
 use Prim.Native.Nat.{ℕ, zero, suc, _+_, _≤_, _<_, _^_}
 use native.Mathlib.Nat.{add-zero}
 use native.Mathlib.Omega.{arith}
@@ -48,3 +48,31 @@ module _ (text : List ℕ) (i : ℕ) (h : i < length text) {found mid : List ℕ
 
 pub wrote-all : (text : List ℕ) (i : ℕ) → length text ≤ i → {found out : List ℕ} {at next : ℕ} → Wrote found at (take i text) out next → Wrote found at text out next
 wrote-all text i h a = wrote-as (take-all i text h) a
+
+-- ---- a text that is written in parts: what is written, with what is to come, is the whole
+
+pub record Underway (found : List ℕ) (at : ℕ) (total rest out : List ℕ) (next : ℕ) : Type 0 where
+  pub text : List ℕ
+  pub whole : text ++ rest ≡ total
+  pub wrote : Wrote found at text out next
+
+pub starts : (found : List ℕ) (at : ℕ) (total : List ℕ) → Underway found at total total found at
+starts found at total = record { text = []; whole = refl; wrote = wrote-none found at }
+
+module _ (part rest : List ℕ) {found total mid : List ℕ} {at next : ℕ} (u : Underway found at total (part ++ rest) mid next) where
+  pub part-counts : Counts at total → Counts next part
+  part-counts h = counts-first next part rest (counts-then at (u .text) (part ++ rest) (subst (Counts at) (sym (u .whole)) h) (u .wrote))
+
+  pub goes : {out : List ℕ} {end : ℕ} → Wrote mid next part out end → Underway found at total rest out end
+  goes w = record { text = u .text ++ part; whole = append-assoc (u .text) part rest ∙ u .whole; wrote = wrote-then (u .wrote) w }
+
+pub ends : {found total out : List ℕ} {at next : ℕ} → Underway found at total [] out next → Wrote found at total out next
+ends u = wrote-as (sym (append-nil (u .text)) ∙ u .whole) (u .wrote)
+
+-- the last part
+pub ends-with : (part : List ℕ) {found total mid out : List ℕ} {at next end : ℕ} → Underway found at total part mid next → Wrote mid next part out end
+    → Wrote found at total out end
+ends-with part u w = wrote-as (u .whole) (wrote-then (u .wrote) w)
+
+pub last-counts : (part : List ℕ) {found total mid : List ℕ} {at next : ℕ} → Underway found at total part mid next → Counts at total → Counts next part
+last-counts part {at = at} u h = counts-then at (u .text) part (subst (Counts at) (sym (u .whole)) h) (u .wrote)

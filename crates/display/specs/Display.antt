@@ -59,25 +59,27 @@ targets n st = those (λ u. anyL (eqOption (some u)) (bytesOf st)) (below n)
 abbrev pub nameOf : ℕ → List ℕ
 nameOf s = bytes "state" ++ decimal s
 
-unfoldable pub markText : String → Option ℕ → List ℕ
+abbrev pub markText : List ℕ → Option ℕ → List ℕ
 markText name none = []
-markText name (some leaf) = bytes name ++ (bytes "(" ++ (decimal leaf ++ bytes ") "))
+markText name (some leaf) = name ++ (decimal leaf ++ bytes ") ")
 
-unfoldable pub firstLine : ℕ → State → List ℕ
-firstLine s st =
-    bytes "  " ++ (nameOf s ++ (bytes " => StateData(" ++ (markText "accept" (st .accept) ++ (markText "early" (st .early) ++ bytes ") {"))))
+unfoldable pub firstLine : ℕ → Option ℕ → Option ℕ → List ℕ
+firstLine s accept early =
+    bytes "  " ++ (nameOf s ++ (bytes " => StateData(" ++ (markText (bytes "accept(") accept ++ (markText (bytes "early(") early ++ bytes ") {"))))
 
-unfoldable pub edgeLine : State → ℕ → List ℕ
-edgeLine st u = bytes "    " ++ (classText (classTo st u) ++ (bytes " => " ++ nameOf u))
+unfoldable pub edgeLine : Class → ℕ → List ℕ
+edgeLine c u = bytes "    " ++ (classText c ++ (bytes " => " ++ nameOf u))
 
-unfoldable pub endLines : Option ℕ → List (List ℕ)
+abbrev pub endLines : Option ℕ → List (List ℕ)
 endLines none = []
 endLines (some u) = (bytes "    EOI => " ++ nameOf u) ∷ []
 
 -- state s, in a graph of n states
 unfoldable pub stateText : ℕ → ℕ → State → List ℕ
 stateText n s st =
-    joined (bytes "\n") (firstLine s st ∷ (map (edgeLine st) (targets n st) ++ (endLines (getD (st .steps) 256 none) ++ (bytes "  }" ∷ []))))
+    joined (bytes "\n")
+    (firstLine s (st .accept) (st .early)
+    ∷ (map (λ u. edgeLine (classTo st u) u) (targets n st) ++ (endLines (getD (st .steps) 256 none) ++ (bytes "  }" ∷ []))))
 
 -- ---- a graph: its states, ascending
 

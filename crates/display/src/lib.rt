@@ -2,3 +2,4 @@
 
 pub mod byte_class;
 pub mod put;
+pub mod state;

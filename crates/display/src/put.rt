@@ -1,6 +1,6 @@
 // Writing into a lent buffer from a place on. What passes the buffer's end is counted and not written, so that a run over no bytes measures a text.
 ghost use mathlib.Core.Path.{_≡_};
-ghost use mathlib.Core.List.{[], _∷_};
+ghost use mathlib.Core.List.{[], _∷_, _++_};
 ghost use Prim.Native.Nat.{_+_, _<_};
 ghost use Rattle.display.specs.Text.{one, decimal, Wrote, Counts};
 
@@ -56,4 +56,13 @@ fn digit(d: usize) -> u8
     ensures { λ r. ⌜ r ≡ 48 + d ⌝ }
 {
     48 + d as u8
+}
+
+// A text with a number after it.
+pub fn numbered(out: &mut [u8], at: usize, bytes: &[u8], n: usize) -> usize
+    requires { ⌜ Counts at (now bytes ++ decimal n) ⌝ }
+    ensures { λ r. ⌜ Wrote (now (out .entry)) at (now (bytes .entry) ++ decimal n) (now (out .exit)) r ⌝ }
+{
+    let next = text(out, at, bytes);
+    number(out, next, n)
 }
