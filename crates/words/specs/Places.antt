@@ -16,3 +16,7 @@ rowPlace m s c = 4 + 3 * m + 258 * s + c
 -- word c of match record i, from 1, of a table with m leaves and n states
 abbrev pub matchPlace : ℕ → ℕ → ℕ → ℕ → ℕ
 matchPlace m n i c = 4 + 3 * m + 258 * n + 2 * (i - 1) + c
+
+-- how many words a table of n states, m leaves and r match records has
+abbrev pub tableLength : ℕ → ℕ → ℕ → ℕ
+tableLength n m r = 4 + 3 * m + 258 * n + 2 * r

@@ -1,7 +1,8 @@
 // Where the words of a table stand. m and n are its numbers of leaves and states.
 ghost use mathlib.Core.Path.{_≡_};
-ghost use Prim.Native.Nat.{_<_};
-ghost use Rattle.words.specs.Places.{leafPlace, rowPlace, matchPlace};
+ghost use Prim.Native.Nat.{_<_, _≤_};
+ghost use lib.ListN.{length, getD};
+ghost use Rattle.words.specs.Places.{leafPlace, rowPlace, matchPlace, tableLength};
 
 // The place of word c of leaf l: priority low half, high half, empty flag.
 pub fn leaf_place(l: usize, c: usize) -> usize
@@ -32,4 +33,46 @@ pub fn match_place(m: usize, n: usize, i: usize, c: usize) -> usize
     ensures { λ r. ⌜ r ≡ matchPlace m n i c ⌝ }
 {
     4 + 3 * m + 258 * n + 2 * (i - 1) + c
+}
+
+// How many words a table has.
+pub fn size(n: usize, m: usize, r: usize) -> usize
+    requires { ⌜ n < 65536 ⌝ }
+    requires { ⌜ m < 65536 ⌝ }
+    requires { ⌜ r < 65536 ⌝ }
+    ensures { λ k. ⌜ k ≡ tableLength n m r ⌝ }
+{
+    4 + 3 * m + 258 * n + 2 * r
+}
+
+// n, the number of states.
+pub fn states(table: &[u16]) -> usize
+    requires { ⌜ 4 ≤ length (now table) ⌝ }
+    ensures { λ k. ⌜ (k ≡ getD (now (table .entry)) 0 0) × (k < 65536) ⌝ }
+{
+    crate::word(table, 0)
+}
+
+// The start state, or 65,535.
+pub fn start(table: &[u16]) -> usize
+    requires { ⌜ 4 ≤ length (now table) ⌝ }
+    ensures { λ k. ⌜ (k ≡ getD (now (table .entry)) 1 0) × (k < 65536) ⌝ }
+{
+    crate::word(table, 1)
+}
+
+// m, the number of leaves.
+pub fn leaves(table: &[u16]) -> usize
+    requires { ⌜ 4 ≤ length (now table) ⌝ }
+    ensures { λ k. ⌜ (k ≡ getD (now (table .entry)) 2 0) × (k < 65536) ⌝ }
+{
+    crate::word(table, 2)
+}
+
+// r, the number of match records.
+pub fn records(table: &[u16]) -> usize
+    requires { ⌜ 4 ≤ length (now table) ⌝ }
+    ensures { λ k. ⌜ (k ≡ getD (now (table .entry)) 3 0) × (k < 65536) ⌝ }
+{
+    crate::word(table, 3)
 }
