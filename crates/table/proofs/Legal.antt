@@ -122,6 +122,9 @@ module _ (w : List ℕ) where
         matches = records-each w b;
       }
 
+  pub legal-sized : refusal w ≡ 0 → Sized w
+  legal-sized e = legal-means e .sized
+
   pub legal-shown : Legal w → refusal w ≡ 0
   unfolding conditions emptiesFit targetsFit headsFit recordsFit
   legal-shown l =

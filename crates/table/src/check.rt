@@ -1,6 +1,8 @@
 // Refusals 1 to 7: the conditions on a table's words, judged in the paper's order, so that no word is read before the length is known.
 ghost use mathlib.Core.Path.{_≡_};
-ghost use Rattle.rules.specs.Table.{refusal};
+ghost use lib.ListN.{length};
+ghost use Rattle.rules.specs.Build.{emptyLeaves};
+ghost use Rattle.rules.specs.Table.{refusal, tableOf};
 ghost use Rattle.table.specs.Conditions.{Sized, countsFit, emptiesFit, targetsFit, headsFit, recordsFit};
 use words::table::leaf_word;
 use words::table::leaves;
@@ -145,4 +147,21 @@ fn records_fit(table: &[u16]) -> bool
         i += 1;
     }
     true
+}
+
+// How many leaves can match empty text (rule 1).
+pub fn count_empty(table: &[u16]) -> usize
+    requires { ⌜ refusal (now table) ≡ 0 ⌝ }
+    ensures { λ r. ⌜ r ≡ length (emptyLeaves (tableOf (now (table .entry)))) ⌝ }
+{
+    let m = leaves(table);
+    let mut count: usize = 0;
+    let mut l: usize = 0;
+    while l < m {
+        if leaf_word(table, l, 2) == 1 {
+            count += 1;
+        }
+        l += 1;
+    }
+    count
 }
