@@ -7,3 +7,5 @@ pub mod Numbering
 pub mod Distinct
 pub mod Judged
 pub mod Those
+pub mod Any
+pub mod Padded
