@@ -7,3 +7,7 @@ pub mod Numbering
 pub mod Distinct
 pub mod Buffers
 pub mod Grid
+pub mod Judged
+pub mod Those
+pub mod Any
+pub mod Padded
