@@ -20,16 +20,16 @@ use Rattle.table.proofs.Records.{next-below, head-below}
 -- ---- any table: a chain's leaves are those of its records
 
 module _ (t : Table) where
-  abbrev leafOfRecord : ℕ → ℕ
+  abbrev pub leafOfRecord : ℕ → ℕ
   leafOfRecord j = matchOf t j .leaf
 
-  abbrev priorityOf : ℕ → ℕ
+  abbrev pub priorityOf : ℕ → ℕ
   priorityOf l = leafAt t l .priority
 
-  abbrev with : ℕ → List ℕ → List ℕ
+  abbrev pub with : ℕ → List ℕ → List ℕ
   with p = those (λ j. eqb (priorityAt t j) p)
 
-  chain-from : (k i : ℕ) → chainFrom t k i ≡ map leafOfRecord (recordsFrom t k i)
+  pub chain-from : (k i : ℕ) → chainFrom t k i ≡ map leafOfRecord (recordsFrom t k i)
   chain-from zero i = refl
   chain-from (suc k) i = go (is (eqb i 0)) (chain-from k (matchOf t i .next))
     where
@@ -38,7 +38,7 @@ module _ (t : Table) where
       go (yes-is q) e = rw (q, chainFrom, recordsFrom)
       go (no-is q) e = rw (q, chainFrom, recordsFrom) (ap {B = List ℕ} (λ r. leafOfRecord i ∷ r) e)
 
-  those-leaf : (p : ℕ) (l : List ℕ) → those (λ x. eqb (priorityOf x) p) (map leafOfRecord l) ≡ map leafOfRecord (with p l)
+  pub those-leaf : (p : ℕ) (l : List ℕ) → those (λ x. eqb (priorityOf x) p) (map leafOfRecord l) ≡ map leafOfRecord (with p l)
   unfolding priorityAt
   those-leaf p [] = refl
   those-leaf p (j ∷ l) = go (is (eqb (priorityAt t j) p)) (those-leaf p l)
@@ -80,7 +80,7 @@ module _ (w : List ℕ) (legal : refusal w ≡ 0) where
           let n = next-below w legal i (omega (arith, z)) h in
           rw (q, recordsFrom) (ap {B = List ℕ} (λ r. i ∷ r) (f (next i) (omega arith) (omega arith) (omega arith)))
 
-  records-end : records t 0 ≡ []
+  pub records-end : records t 0 ≡ []
   unfolding records
   records-end = refl
 
