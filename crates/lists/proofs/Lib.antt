@@ -11,3 +11,4 @@ pub mod Judged
 pub mod Those
 pub mod Any
 pub mod Padded
+pub mod Rising

@@ -3,3 +3,6 @@ pub mod Judging
 pub mod Legal
 pub mod Empties
 pub mod Steps
+pub mod Records
+pub mod Contenders
+pub mod Ascents
