@@ -4,7 +4,7 @@ set -eu
 cd "$(dirname "$0")/.."
 oracle/build.sh
 mkdir -p oracle/lists
-for name in classes; do
+for name in classes priorities; do
     target/oracle/oracle list "$name" >"oracle/lists/$name.bin"
 done
 ls -l oracle/lists

@@ -3,13 +3,15 @@
 mod classes;
 mod form;
 mod original;
+mod priorities;
 mod random;
+mod words;
 
 use random::Random;
 use std::io::{BufRead, Write};
 
 const USAGE: &str = "oracle cases NAME SEED COUNT | oracle answers NAME < cases | oracle list NAME
-NAME: classes";
+NAME: classes, priorities";
 
 fn main() {
     let args = std::env::args().skip(1).collect::<Vec<_>>();
@@ -30,6 +32,7 @@ fn cases(name: &str, seed: usize, count: usize) -> Option<()> {
     let mut random = Random::new(seed as u64);
     let mut next: Box<dyn FnMut() -> String> = match name {
         "classes" => Box::new(move || classes::random_case(&mut random).line()),
+        "priorities" => Box::new(move || priorities::random_case(&mut random).line()),
         _ => return None,
     };
     let mut out = std::io::BufWriter::new(std::io::stdout().lock());
@@ -42,6 +45,7 @@ fn cases(name: &str, seed: usize, count: usize) -> Option<()> {
 fn answers(name: &str) -> Option<()> {
     let answer: fn(&str) -> String = match name {
         "classes" => |line| classes::Case::of_line(line).answer(),
+        "priorities" => |line| priorities::Case::of_line(line).answer(),
         _ => return None,
     };
     let mut out = std::io::BufWriter::new(std::io::stdout().lock());
@@ -54,6 +58,7 @@ fn answers(name: &str) -> Option<()> {
 fn list(name: &str) -> Option<()> {
     let bytes = match name {
         "classes" => classes::list(),
+        "priorities" => priorities::list(),
         _ => return None,
     };
     std::io::stdout().write_all(&bytes).expect("standard output");
