@@ -1,4 +1,6 @@
 pub mod Ranges
+pub mod Rows
+pub mod FlagPass
 pub mod Bits
 pub mod Numbers
 pub mod MaskLaws
