@@ -6,13 +6,13 @@ use mathlib.Core.List.{List, [], _∷_, _++_, map, map-append, append-assoc, app
 use Prim.Native.Nat.{ℕ, zero, suc, _+_, _-_, _≤_, _<_}
 use native.Mathlib.Numerals.{add-one}
 use native.Mathlib.Omega.{arith}
-use lib.ListN.{length, drop, set, replicate, length-append, length-map, drop-of-length-le}
+use lib.ListN.{length, getD, drop, set, replicate, length-append, length-map, drop-of-length-le}
 use lib.Seq.{drop-cons, append-snoc}
 use Rattle.classes.specs.Classes.{Class, has, Range, rangesFrom, ranges}
 use Rattle.classes.specs.ClassAnswers.{row, asByteClass}
 use Rattle.classes.specs.declared.byte_class.ByteClass.{ByteClass}
 use Rattle.classes.proofs.Ranges.{run-gap, run-end}
-use Rattle.classes.proofs.Rows.{row-none, row-push}
+use Rattle.classes.proofs.Rows.{row-none, column-get, column-push}
 
 -- ---- ranges stored in two arrays
 
@@ -30,11 +30,6 @@ pub record Stored (rs : List Range) (first last : List ℕ) (count : ℕ) : Type
 stored-none : Stored [] (replicate 128 0) (replicate 128 0) 0
 stored-none = record { counted = refl; at-first = sym row-none; at-last = sym row-none }
 
-push : (f : Range → ℕ) (rs : List Range) (r : Range) (l : List ℕ) → length rs < 128 → l ≡ row (map f rs) → set l (length rs) (f r) ≡ row (map f (rs ++ r ∷ []))
-push f rs r l h e =
-    let n : length (map f rs) ≡ length rs = length-map rs f in
-    rw (e, map-append f rs (r ∷ []), ← n) (row-push (map f rs) (f r) (omega arith))
-
 stored-more : {rs : List Range} {first last : List ℕ} {count : ℕ} (a b : ℕ) → count < 128 → Stored rs first last count
     → Stored (rs ++ record { first = a; last = b } ∷ []) (set first count a) (set last count b) (count + 1)
 stored-more {rs} {first} {last} {count} a b h s =
@@ -42,8 +37,8 @@ stored-more {rs} {first} {last} {count} a b h s =
     let e = s .counted in
     record {
       counted = simp length-append (omega arith);
-      at-first = rw e (push (λ q. q .first) rs r first (omega arith) (s .at-first));
-      at-last = rw e (push (λ q. q .last) rs r last (omega arith) (s .at-last));
+      at-first = rw e (column-push (λ q. q .first) rs (omega arith) r first (s .at-first));
+      at-last = rw e (column-push (λ q. q .last) rs (omega arith) r last (s .at-last));
     }
 
 pub stored-whole : {rs : List Range} {first last : List ℕ} {count : ℕ} → Stored rs first last count
@@ -145,3 +140,18 @@ module _ (c : Class) (wide : length c ≡ 256) where
         let s : start ≡ 256 = omega (arith, p .begun) in
         let r : rangesFrom start (drop start c) ≡ [] = rw (s, past) in
         stored-whole (p .stored) ∙ ap asByteClass (sym (append-nil (p .done)) ∙ rw (← r) (p .whole))
+
+-- ---- what is read of the struct again
+
+module _ (rs : List Range) {class : ByteClass} (e : class ≡ asByteClass rs) where
+  pub held-count : class .count ≡ length rs
+  unfolding asByteClass
+  held-count = rw e
+
+  pub held-next : (i : ℕ) → i < class .count → drop i rs ≡ record { first = getD (class .first) i 0; last = getD (class .last) i 0 } ∷ drop (suc i) rs
+  unfolding asByteClass
+  held-next i h =
+      let none : Range = record { first = 0; last = 0 } in
+      let n : i < length rs = omega (arith, held-count) in
+      let at : (f : Range → ℕ) → getD (row (map f rs)) i 0 ≡ f (getD rs i none) = λ f. column-get f rs i none n in
+      drop-cons rs i none n ∙ rw (e, at (λ r. r .first), at (λ r. r .last))

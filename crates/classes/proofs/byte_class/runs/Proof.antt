@@ -87,13 +87,13 @@ returns : tie.Need-returns Inv-loop μ-loop
 returns c =
     let at = c .before .before in
     let full : at .loop .b ≡ 256 = omega arith in
-    pass-last (at .before .args .t1) (omega arith) (c .if3 .taken) (rw full at (at .loop .inv .1))
+    (pass-last (at .before .args .t1) (omega arith) (c .if3 .taken) (rw full at (at .loop .inv .1)), omega arith)
 
 returns-2 : tie.Need-returns-2 Inv-loop μ-loop
 returns-2 c =
     let at = c .before .before in
     let full : at .loop .b ≡ 256 = omega arith in
-    pass-end (at .before .args .t1) (omega arith) (c .if3 .left) (rw full at (at .loop .inv .1))
+    (pass-end (at .before .args .t1) (omega arith) (c .if3 .left) (rw full at (at .loop .inv .1)), omega arith)
 
 pub runs-spec : {M : Type 1} → statement M
 runs-spec =
