@@ -1,4 +1,9 @@
 pub mod Ranges
+pub mod Rows
+pub mod FlagPass
+pub mod Joining
+pub mod Listed
+pub mod Costs
 pub mod Bits
 pub mod Numbers
 pub mod Search
