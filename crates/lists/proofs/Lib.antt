@@ -7,3 +7,5 @@ pub mod Numbering
 pub mod Distinct
 pub mod Buffers
 pub mod Rising
+pub mod Sorted
+pub mod Selections

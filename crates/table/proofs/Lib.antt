@@ -1,3 +1,4 @@
 pub mod Records
 pub mod Contenders
 pub mod Ascents
+pub mod Conflicts
