@@ -9,3 +9,7 @@ pub mod Judged
 pub mod Those
 pub mod Any
 pub mod Padded
+pub mod Buffers
+pub mod Rising
+pub mod Sorted
+pub mod Selections

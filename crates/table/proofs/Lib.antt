@@ -3,3 +3,7 @@ pub mod Judging
 pub mod Legal
 pub mod Empties
 pub mod Steps
+pub mod Records
+pub mod Contenders
+pub mod Ascents
+pub mod Conflicts
