@@ -8,7 +8,7 @@ pub mod Distinct
 pub mod Judged
 pub mod Those
 pub mod Any
-pub mod Padded
+pub mod Padding
 pub mod Buffers
 pub mod Rising
 pub mod Sorted
