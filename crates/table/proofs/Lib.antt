@@ -6,3 +6,4 @@ pub mod Steps
 pub mod Records
 pub mod Contenders
 pub mod Ascents
+pub mod Conflicts
