@@ -6,3 +6,9 @@ pub mod Worklist
 pub mod Numbering
 pub mod Distinct
 pub mod Buffers
+pub mod Grid
+pub mod Judged
+pub mod Those
+pub mod Any
+pub mod Padded
+pub mod Rising

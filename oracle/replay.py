@@ -1,0 +1,149 @@
+#!/usr/bin/env python3
+"""Reads the stored lists as docs/ORACLE.md lays them out and holds every value against document 01's rules as paper.py reads them.
+
+    replay.py [NAME ..]
+"""
+import os
+import sys
+
+sys.dont_write_bytecode = True
+import paper
+
+LISTS = os.path.join(os.path.dirname(os.path.abspath(__file__)), "lists")
+
+
+class Stored:
+    """A list while it is read."""
+
+    def __init__(self, name):
+        with open(os.path.join(LISTS, name + ".bin"), "rb") as file:
+            self.all = file.read()
+        self.at = 0
+        self.checked = 0
+
+    def bytes(self, count):
+        self.at += count
+        assert self.at <= len(self.all), "the list ends early"
+        return self.all[self.at - count : self.at]
+
+    def number(self, width):
+        return int.from_bytes(self.bytes(width), "little")
+
+    def byte(self):
+        return self.number(1)
+
+    def half(self):
+        return self.number(2)
+
+    def word(self):
+        return self.number(4)
+
+    def same(self, found, expected, what):
+        assert found == expected, f"{what}, before byte {self.at}: stored {expected}, by the rules {found}"
+        self.checked += 1
+
+
+# ---- classes
+
+
+def one_class(stored):
+    held = paper.class_of(stored.bytes(32))
+    ranges = [(stored.byte(), stored.byte()) for _ in range(stored.byte())]
+    stored.same(paper.ranges(held), ranges, "ranges")
+    comparisons = []
+    for _ in range(stored.byte()):
+        first, last, ops, exceptions = stored.byte(), stored.byte(), stored.byte(), stored.byte()
+        comparisons.append((first, last, list(stored.bytes(exceptions))))
+        stored.same(paper.count_ops(comparisons[-1]), ops, "count_ops")
+    stored.same(paper.comparisons(held), comparisons, "comparisons")
+    stored.same(paper.cost(held), stored.half(), "cost")
+    return held
+
+
+def rendered(stored, store):
+    luts = b"".join(stored.bytes(256) for _ in range(stored.byte()))
+    stored.same(paper.luts(store), luts.ljust(2048, b"\0"), "tables")
+
+
+def mask(store, added):
+    number = paper.store_add(store, added) if store is not None else None
+    return 255 if number is None else number
+
+
+def classes(stored):
+    held = [one_class(stored) for _ in range(stored.word())]
+    for _ in range(stored.half()):
+        stored.byte()
+        store = []
+        for _ in range(stored.half()):
+            stored.same(mask(store, held[stored.half()]), stored.byte(), "mask number")
+        stored.same(len(store), stored.byte(), "held")
+        rendered(stored, store)
+    for _ in range(stored.half()):
+        count, tables = stored.word(), stored.bytes(2048)
+        store = paper.store_of(tables, count)
+        for _ in range(stored.half()):
+            stored.same(mask(store, paper.class_of(stored.bytes(32))), stored.byte(), "mask number")
+        stored.same(count if store is None else len(store), stored.word(), "held")
+        refusal = stored.byte()
+        stored.same(15 if store is None else 0, refusal, "refusal")
+        if refusal == 0:
+            rendered(stored, store)
+
+
+# ---- priorities
+
+
+def half_priority(text):
+    points = paper.code_points(text)
+    return len(text) if points is None else points
+
+
+def priorities(stored):
+    pairs, edges = stored.bytes(16384), (0x7F, 0x80, 0xBF, 0xC0)
+    for x in range(256):
+        for y in range(256):
+            code = pairs[(256 * x + y) // 4] >> 2 * (y % 4) & 3
+            points = paper.code_points(bytes((x, y)))
+            stored.same(2 if points is None else points - 1, code, "two bytes")
+    threes = [(x, y, z) for x in range(0xE0, 0xF0) for y in range(256) for z in edges]
+    fours = [(w, x, y, z) for w in range(0xF0, 0xF8) for x in range(256) for y in edges for z in edges]
+    for strings in (threes, fours):
+        bits = stored.bytes(len(strings) // 8)
+        for i, string in enumerate(strings):
+            stored.same(paper.code_points(bytes(string)) == 1, bits[i // 8] >> i % 8 & 1 == 1, "one code point")
+    for _ in range(stored.word()):
+        text = stored.bytes(stored.byte())
+        stored.same(half_priority(text), stored.byte(), "literal")
+    for _ in range(stored.word()):
+        tree(stored)
+
+
+def tree(stored):
+    length, words = stored.half(), []
+    while len(words) < length:
+        given = stored.byte()
+        words += [stored.word() if given >> j & 1 else 0 for j in range(min(6, length - len(words)))]
+    text = stored.bytes(stored.half())
+    refusal, value = stored.byte(), stored.word()
+    found = paper.told(lambda: paper.values(paper.tree_of(words, text), text)[length // 6])
+    stored.same(found, f"refused-{refusal}" if refusal else str(value), "priority")
+    refusal, value = stored.byte(), stored.byte()
+    found = paper.told(lambda: paper.greedy_all(paper.tree_of(words, text), length // 6))
+    stored.same(found, f"refused-{refusal}" if refusal else str(value), "greedy")
+
+
+REPLAYS = {"classes": classes, "priorities": priorities}
+
+
+def main():
+    sys.setrecursionlimit(10000)
+    for name in sys.argv[1:] or REPLAYS:
+        stored = Stored(name)
+        REPLAYS[name](stored)
+        assert stored.at == len(stored.all), f"{name}: {len(stored.all) - stored.at} bytes are left"
+        print(f"{name}: {stored.checked} values alike")
+
+
+if __name__ == "__main__":
+    main()

@@ -1,0 +1,66 @@
+//! The oracle: random cases, the original's answers to cases, and the stored lists. docs/ORACLE.md says what each is.
+
+mod classes;
+mod form;
+mod original;
+mod priorities;
+mod random;
+mod words;
+
+use random::Random;
+use std::io::{BufRead, Write};
+
+const USAGE: &str = "oracle cases NAME SEED COUNT | oracle answers NAME < cases | oracle list NAME
+NAME: classes, priorities";
+
+fn main() {
+    let args = std::env::args().skip(1).collect::<Vec<_>>();
+    let args = args.iter().map(String::as_str).collect::<Vec<_>>();
+    let done = match args[..] {
+        ["cases", name, seed, count] => cases(name, form::number(seed), form::number(count)),
+        ["answers", name] => answers(name),
+        ["list", name] => list(name),
+        _ => None,
+    };
+    if done.is_none() {
+        eprintln!("{USAGE}");
+        std::process::exit(2);
+    }
+}
+
+fn cases(name: &str, seed: usize, count: usize) -> Option<()> {
+    let mut random = Random::new(seed as u64);
+    let mut next: Box<dyn FnMut() -> String> = match name {
+        "classes" => Box::new(move || classes::random_case(&mut random).line()),
+        "priorities" => Box::new(move || priorities::random_case(&mut random).line()),
+        _ => return None,
+    };
+    let mut out = std::io::BufWriter::new(std::io::stdout().lock());
+    for _ in 0..count {
+        writeln!(out, "{}", next()).expect("standard output");
+    }
+    Some(())
+}
+
+fn answers(name: &str) -> Option<()> {
+    let answer: fn(&str) -> String = match name {
+        "classes" => |line| classes::Case::of_line(line).answer(),
+        "priorities" => |line| priorities::Case::of_line(line).answer(),
+        _ => return None,
+    };
+    let mut out = std::io::BufWriter::new(std::io::stdout().lock());
+    for line in std::io::stdin().lock().lines() {
+        writeln!(out, "{}", answer(&line.expect("standard input"))).expect("standard output");
+    }
+    Some(())
+}
+
+fn list(name: &str) -> Option<()> {
+    let bytes = match name {
+        "classes" => classes::list(),
+        "priorities" => priorities::list(),
+        _ => return None,
+    };
+    std::io::stdout().write_all(&bytes).expect("standard output");
+    Some(())
+}
