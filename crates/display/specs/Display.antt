@@ -50,9 +50,13 @@ bytesOf st = take 256 (st .steps)
 unfoldable pub classTo : State → ℕ → Class
 classTo st u = map (eqOption (some u)) (bytesOf st)
 
+-- a byte edge leads to u
+unfoldable pub leadsTo : State → ℕ → Bool
+leadsTo st u = anyL (eqOption (some u)) (bytesOf st)
+
 -- the targets of its edges, ascending, in a graph of n states
 unfoldable pub targets : ℕ → State → List ℕ
-targets n st = those (λ u. anyL (eqOption (some u)) (bytesOf st)) (below n)
+targets n st = those (leadsTo st) (below n)
 
 -- ---- a state: its marks, each class and target, EOI; one line each
 
