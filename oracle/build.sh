@@ -41,7 +41,7 @@ crate lib regex_syntax 2021 "-D warnings" oracle/standins/regex_syntax.rs
 for file in graph/mod.rs graph/dfa_util.rs pattern.rs leaf.rs generator/mod.rs generator/fork.rs generator/fast_loop.rs; do
     ln -sfn "$LOGOS_SRC/$file" "$OUT/codegen/$file"
 done
-for file in lib.rs parser.rs util.rs; do ln -sfn "$PWD/oracle/codegen/$file" "$OUT/codegen/$file"; done
+for file in lib.rs parser.rs util.rs views.rs; do ln -sfn "$PWD/oracle/codegen/$file" "$OUT/codegen/$file"; done
 ln -sfn "$PWD/oracle/codegen/export.rs" "$OUT/codegen/graph/export.rs"
 ln -sfn "$PWD/oracle/codegen/generator_leaf.rs" "$OUT/codegen/generator/leaf.rs"
 crate lib logos_codegen 2021 "-D warnings" "$OUT/codegen/lib.rs" regex_automata regex_syntax proc_macro2 quote syn fnv

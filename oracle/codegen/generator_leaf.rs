@@ -4,6 +4,7 @@
 use super::Generator;
 use crate::graph::{ByteClass, State};
 use crate::leaf::Leaf;
+use crate::views::{Choices, Fork};
 use proc_macro2::{Delimiter, TokenStream, TokenTree};
 use quote::quote;
 
@@ -66,18 +67,6 @@ impl<'a> Generator<'a> {
         let forks = if table { None } else { Some(forks(&inner)) };
         Choices { self_mask, forks }
     }
-}
-
-/// A state's self mask, and its forks, each with its target; no forks means a 256-entry table.
-pub struct Choices {
-    pub self_mask: Option<usize>,
-    pub forks: Option<Vec<(usize, Fork)>>,
-}
-
-pub enum Fork {
-    Mask(usize),
-    /// The bytes for which the generated condition holds.
-    Comparisons(Box<[bool; 256]>),
 }
 
 /// The forks of `if CONDITION { .. state = LogosState::StateN; continue; }`, one after another.

@@ -1,17 +1,24 @@
 //! The oracle: random cases, the original's answers to cases, and the stored lists. docs/ORACLE.md says what each is.
 
+mod builds;
 mod classes;
+mod display;
 mod form;
+mod graphs;
 mod original;
 mod priorities;
 mod random;
+mod tables;
 mod words;
 
 use random::Random;
-use std::io::{BufRead, Write};
+use std::io::{BufRead, Read, Write};
 
-const USAGE: &str = "oracle cases NAME SEED COUNT | oracle answers NAME < cases | oracle list NAME
-NAME: classes, priorities";
+const USAGE: &str = "oracle cases NAME SEED COUNT
+oracle answers NAME < cases
+oracle list NAME IMAGE..
+oracle print < image
+NAME: classes, priorities, builds, display";
 
 fn main() {
     let args = std::env::args().skip(1).collect::<Vec<_>>();
@@ -19,7 +26,8 @@ fn main() {
     let done = match args[..] {
         ["cases", name, seed, count] => cases(name, form::number(seed), form::number(count)),
         ["answers", name] => answers(name),
-        ["list", name] => list(name),
+        ["list", name, ref images @ ..] => list(name, images),
+        ["print"] => print(),
         _ => None,
     };
     if done.is_none() {
@@ -33,6 +41,8 @@ fn cases(name: &str, seed: usize, count: usize) -> Option<()> {
     let mut next: Box<dyn FnMut() -> String> = match name {
         "classes" => Box::new(move || classes::random_case(&mut random).line()),
         "priorities" => Box::new(move || priorities::random_case(&mut random).line()),
+        "builds" => Box::new(move || builds::random_case(&mut random).line()),
+        "display" => Box::new(move || display::random_case(&mut random).line()),
         _ => return None,
     };
     let mut out = std::io::BufWriter::new(std::io::stdout().lock());
@@ -46,6 +56,8 @@ fn answers(name: &str) -> Option<()> {
     let answer: fn(&str) -> String = match name {
         "classes" => |line| classes::Case::of_line(line).answer(),
         "priorities" => |line| priorities::Case::of_line(line).answer(),
+        "builds" => |line| builds::Case::of_line(line).answer(),
+        "display" => |line| display::Case::of_line(line).answer(),
         _ => return None,
     };
     let mut out = std::io::BufWriter::new(std::io::stdout().lock());
@@ -55,12 +67,28 @@ fn answers(name: &str) -> Option<()> {
     Some(())
 }
 
-fn list(name: &str) -> Option<()> {
+fn list(name: &str, images: &[&str]) -> Option<()> {
+    let images = images.iter().map(|path| image(path)).collect::<Vec<_>>();
     let bytes = match name {
         "classes" => classes::list(),
         "priorities" => priorities::list(),
+        "builds" => builds::list(&images),
+        "display" => display::list(),
         _ => return None,
     };
     std::io::stdout().write_all(&bytes).expect("standard output");
+    Some(())
+}
+
+/// The words of an image, low byte first.
+fn image(path: &str) -> Vec<u16> {
+    let bytes = std::fs::read(path).unwrap_or_else(|error| panic!("{path}: {error}"));
+    bytes.chunks_exact(2).map(|pair| u16::from_le_bytes([pair[0], pair[1]])).collect()
+}
+
+fn print() -> Option<()> {
+    let mut bytes = Vec::new();
+    std::io::stdin().read_to_end(&mut bytes).expect("standard input");
+    std::io::stdout().write_all(builds::printed(&bytes).as_bytes()).expect("standard output");
     Some(())
 }
