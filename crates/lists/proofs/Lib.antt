@@ -5,3 +5,4 @@ pub mod Closure
 pub mod Worklist
 pub mod Numbering
 pub mod Distinct
+pub mod Padding

@@ -18,7 +18,7 @@ use Rattle.rules.proofs.Flat.{from-to, from-accept}
 use Rattle.rules.proofs.Marks.{early-early}
 use Rattle.rules.proofs.Taken.{taken-long}
 use Rattle.rules.proofs.Views.{out-accept}
-use Rattle.rewrite.proofs.Read.{from-length, from-width, accept-leaf}
+use Rattle.rewrite.proofs.Read.{word-inj, from-length, from-width, accept-leaf}
 
 -- ---- lists of leaves
 
@@ -36,13 +36,6 @@ agreed-none (o ∷ l) (suc i) h n = go (is (allL (eqOption o) l))
     go : Is (allL (eqOption o) l) → cond (allL (eqOption o) l) o none ≡ none
     go (yes-is q) = absurd (n (sym (option-sound .eq o (getD l i none) (all-at (eqOption o) l i none q (le-of-suc-le-suc h)))))
     go (no-is q) = rw q
-
--- two leaves, none of which is the word for none, are equal where their words are
-word-inj : (k : ℕ) (a b : Option ℕ) → (a ≡ some k → ⊥) → (b ≡ some k → ⊥) → Option·getD a k ≡ Option·getD b k → a ≡ b
-word-inj k none none m n e = refl
-word-inj k none (some y) m n e = absurd (n (ap {B = Option ℕ} some (sym e)))
-word-inj k (some x) none m n e = absurd (m (ap {B = Option ℕ} some e))
-word-inj k (some x) (some y) m n e = ap {B = Option ℕ} some e
 
 -- ---- the children of a row of 257
 

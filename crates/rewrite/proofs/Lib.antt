@@ -3,3 +3,4 @@ pub mod Buffers
 pub mod Steps
 pub mod Children
 pub mod Marking
+pub mod Parents

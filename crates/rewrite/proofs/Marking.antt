@@ -38,6 +38,15 @@ module _ (w₀ : List ℕ) (mark : ℕ → ℕ) where
         other = λ i f. getD-set-other w at i (mark s) 0 (λ q. f s (omega arith) q) ∙ m .other i (λ k l q. f k (omega arith) q);
       }
 
+  -- a state that keeps its marks
+  pub marked-keep : (s : ℕ) (w : List ℕ) → getD w₀ (2 + 258 * s + 257) 0 ≡ mark s → Marked w₀ mark s w → Marked w₀ mark (s + 1) w
+  marked-keep s w e m =
+      record {
+        len = m .len;
+        done = below-more _ s (m .done) (m .other (2 + 258 * s + 257) (λ k l q. omega arith) ∙ e);
+        other = λ i f. m .other i (λ k l q. f k (omega arith) q);
+      }
+
 module _ (w₀ : List ℕ) (taken : graphFits w₀ ≡ true) (mark : ℕ → ℕ) (s : ℕ) (w : List ℕ) (m : Marked w₀ mark s w) where
   abbrev n : ℕ
   n = getD w₀ 0 0

@@ -1,6 +1,6 @@
 -- The graph that words hold which refusal 12 takes, and that only their count, root and targets decide whether it takes them. Assumes nothing.
 use mathlib.Core.Path.{_≡_, refl, sym, ap, subst, _∙_}
-use mathlib.Core.Bool.{true, _||_}
+use mathlib.Core.Bool.{true, false, _||_}
 use mathlib.Core.List.{List, []}
 use mathlib.Core.Option.{Option, none, some, Option·getD}
 use mathlib.Core.Logic.{_⊎_, ⊎-elim}
@@ -10,15 +10,15 @@ use borrow.Author.Tests.{eqb-true, eq-eqb, le-leb, lt-ltb}
 use lib.Dec.{eqb, ltb}
 use lib.ListN.{length, getD, take, drop, length-map, List·getD-eq-default}
 use lib.Seq.{length-take-le, getD-take}
-use Rattle.lists.specs.Lists.{allL, pieces}
+use Rattle.lists.specs.Lists.{allL, pieces, eqOption}
 use Rattle.lists.proofs.Bools.{Is, is, yes-is, no-is, none-some, lt-or-le, and-intro, or-left, or-right}
-use Rattle.lists.proofs.Elements.{all-intro, map-at}
+use Rattle.lists.proofs.Elements.{all-intro, map-at, option-sound}
 use Rattle.lists.proofs.Pieces.{pieces-length, piece-word}
 use Rattle.rules.specs.Graph.{State, Graph, blank, stateOf, to, acceptOf, earlyOf, orNone, stateFrom, graphFrom, graphFits}
 use Rattle.rules.proofs.Fits.{Fits}
 use Rattle.rules.proofs.Flat.{from-to, from-accept, from-early, piece, piece-length}
 use Rattle.rules.proofs.Taken.{taken-long, taken-few, taken-root, taken-target}
-use Rattle.rules.proofs.Views.{edge-within, out-accept}
+use Rattle.rules.proofs.Views.{edge-within, out-accept, out-early}
 
 -- ---- a word, and none
 
@@ -39,6 +39,13 @@ module _ (none-word x : ℕ) where
 
 pub or-same : (none-word x y : ℕ) → orNone none-word x ≡ orNone none-word y → x ≡ y
 or-same n x y e = sym (or-word n x) ∙ ap (λ (o : Option ℕ). Option·getD o n) e ∙ or-word n y
+
+-- two that are not the word for none are equal where their words are
+pub word-inj : (k : ℕ) (a b : Option ℕ) → (a ≡ some k → ⊥) → (b ≡ some k → ⊥) → Option·getD a k ≡ Option·getD b k → a ≡ b
+word-inj k none none m n e = refl
+word-inj k none (some y) m n e = absurd (n (ap {B = Option ℕ} some (sym e)))
+word-inj k (some x) none m n e = absurd (m (ap {B = Option ℕ} some e))
+word-inj k (some x) (some y) m n e = ap {B = Option ℕ} some e
 
 -- ---- taken, from the words
 
@@ -144,13 +151,38 @@ module _ (w : List ℕ) (taken : graphFits w ≡ true) where
             let a : r ≡ u = r-is ∙ ap (λ (o : Option ℕ). Option·getD o 65535) q in
             (q ∙ ap {B = Option ℕ} some (sym a), subst (λ (x : ℕ). x < getD w 0 0) (sym a) (from-edge s c u q .3))
 
+  -- ---- its leaves
+
   -- a leaf is not the word for none
+  no-leaf : (x : ℕ) → orNone 255 x ≡ some 255 → ⊥
+  no-leaf x e = let (p, q) = or-some 255 x 255 e in q p
+
   pub accept-leaf : (s : ℕ) → acceptOf (graphFrom w) s ≡ some 255 → ⊥
   accept-leaf s e =
       ⊎-elim
-      (λ h. let (x, y) = or-some 255 (getD w (2 + 258 * s + 257) 0 % 256) 255 (sym (from-accept w (taken-long w taken) s h) ∙ e) in y x)
+      (λ h. no-leaf (getD w (2 + 258 * s + 257) 0 % 256) (sym (from-accept w (taken-long w taken) s h) ∙ e))
       (λ h. none-some (sym (out-accept g s (rw (from-length w) h)) ∙ e))
       (lt-or-le s (getD w 0 0))
+
+  pub early-leaf : (s : ℕ) → earlyOf (graphFrom w) s ≡ some 255 → ⊥
+  early-leaf s e =
+      ⊎-elim
+      (λ h. no-leaf (getD w (2 + 258 * s + 257) 0 / 256) (sym (from-early w (taken-long w taken) s h) ∙ e))
+      (λ h. none-some (sym (out-early g s (rw (from-length w) h)) ∙ e))
+      (lt-or-le s (getD w 0 0))
+
+  -- an early leaf and an accept, compared by their words
+  module _ (p u x y : ℕ) (x-is : x ≡ Option·getD (acceptOf (graphFrom w) u) 255) (y-is : y ≡ Option·getD (earlyOf (graphFrom w) p) 255) where
+    pub leaves-differ : (x ≡ y → ⊥) → eqOption (earlyOf (graphFrom w) p) (acceptOf (graphFrom w) u) ≡ false
+    leaves-differ n = go (is (eqOption (earlyOf g p) (acceptOf g u)))
+      where
+        go : Is (eqOption (earlyOf g p) (acceptOf g u)) → eqOption (earlyOf g p) (acceptOf g u) ≡ false
+        go (no-is q) = q
+        go (yes-is q) = absurd (n (x-is ∙ ap (λ (o : Option ℕ). Option·getD o 255) (sym (option-sound .eq (earlyOf g p) (acceptOf g u) q)) ∙ sym y-is))
+
+    pub leaves-agree : x ≡ y → eqOption (earlyOf (graphFrom w) p) (acceptOf (graphFrom w) u) ≡ true
+    leaves-agree e =
+        rw (word-inj 255 (earlyOf g p) (acceptOf g u) (early-leaf p) (accept-leaf u) (sym y-is ∙ sym e ∙ x-is)) (option-sound .self (acceptOf g u))
 
   -- ---- it fits, as its marks are of two bytes
   pub taken-fits : ((i : ℕ) → getD w i 0 < 65536) → Fits 255 (getD w 0 0) (graphFrom w)
