@@ -20,3 +20,4 @@ pub mod Those
 pub mod Any
 pub mod Padded
 pub mod Rising
+pub mod Padding
