@@ -14,4 +14,3 @@ pub mod Rising
 pub mod Sorted
 pub mod Selections
 pub mod Grid
-pub mod Padded
