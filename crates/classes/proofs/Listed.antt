@@ -1,16 +1,15 @@
 -- Comparisons that stand in arrays, read one after another: which of them hold of a byte. Assumes nothing.
-use mathlib.Core.Path.{_≡_, refl, sym, ap, _∙_}
-use mathlib.Core.Bool.{Bool, true, false, not, _&&_, _||_}
-use mathlib.Core.List.{List, [], _∷_, _++_, map, append-assoc}
+use mathlib.Core.Path.{_≡_, refl, sym}
+use mathlib.Core.Bool.{true, false, _||_}
+use mathlib.Core.List.{List, [], _∷_}
 use Prim.Native.Nat.{ℕ, zero, suc, _+_, _-_, _≤_, _<_, min}
 use native.Mathlib.Numerals.{add-one}
 use native.Mathlib.Omega.{arith}
 use borrow.Author.Tests.{eq-eqb, ne-eqb}
-use lib.Dec.{eqb}
-use lib.ListN.{length, getD, take, drop, drop-of-length-le, length-map, length-drop}
-use lib.Seq.{drop-cons, drop-drop, take-append-seam, drop-append-seam}
-use Rattle.classes.specs.Classes.{Comparison, excepted, holds, someHolds}
-use Rattle.classes.specs.ClassAnswers.{row, exceptions, asComparisons, listed}
+use lib.ListN.{length, getD, take, drop, drop-of-length-le, length-drop}
+use lib.Seq.{drop-cons, drop-drop}
+use Rattle.classes.specs.Classes.{excepted, holds, someHolds}
+use Rattle.classes.specs.ClassAnswers.{listed}
 
 -- ---- no more is taken or dropped than there is
 
@@ -39,19 +38,6 @@ module _ (xs : List ℕ) (b j : ℕ) (inside : j < length xs) where
 
 pub excepted-none : (xs : List ℕ) (b j : ℕ) → length xs ≤ j → excepted (drop j xs) b ≡ false
 excepted-none xs b j h = rw (drop-of-length-le xs h)
-
--- ---- comparisons laid out and read back
-
-pub listed-laid : (ms : List Comparison) (f l h x : List ℕ)
-    → listed (length ms) (map (λ m. m .range .first) ms ++ f) (map (λ m. m .range .last) ms ++ l) (map (λ m. length (m .except)) ms ++ h) (exceptions ms ++ x) ≡ ms
-listed-laid [] f l h x = refl
-listed-laid (m ∷ ms) f l h x =
-    rw (append-assoc (m .except) (exceptions ms) x, take-append-seam (m .except) (exceptions ms ++ x), drop-append-seam (m .except) (exceptions ms ++ x), listed-laid ms f l h x)
-
--- what a class's comparisons are laid out as is read back as these comparisons
-pub listed-answer : (ms : List Comparison) → let r = asComparisons ms in listed (r .count) (r .first) (r .last) (r .holes) (r .except) ≡ ms
-unfolding asComparisons row
-listed-answer ms = listed-laid ms _ _ _ _
 
 -- ---- the next of them
 

@@ -109,6 +109,7 @@ pub fn impl_with_cmp(class: &[bool; 256]) -> Comparisons
 // The operations that one end of a range takes: none where the type enforces it.
 fn end_ops(enforced: bool) -> usize
     ensures { λ r. ⌜ r ≡ cond enforced 0 1 ⌝ }
+    ensures few { λ r. ⌜ r ≤ 1 ⌝ }
 {
     if enforced { 0 } else { 1 }
 }
@@ -116,6 +117,7 @@ fn end_ops(enforced: bool) -> usize
 // The operations that one comparison takes: one for a single byte, else one for each end that is not 0 or 255; and one for each exception.
 pub fn count_ops(first: u8, last: u8, exceptions: u8) -> usize
     ensures { λ r. ⌜ r ≡ opsOf first last exceptions ⌝ }
+    ensures few { λ r. ⌜ r ≤ 257 ⌝ }
 {
     if first == last {
         1 + exceptions as usize
