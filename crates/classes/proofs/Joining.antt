@@ -167,18 +167,17 @@ module _ {rs : List Range} {first last holes except : List ℕ} {count gaps end 
             let x : length (exceptions (all ++ m ∷ [])) ≡ length (exceptions all) + length (m .except) = ap length (exceptions-snoc all m) ∙ length-append (exceptions all) (m .except) in
             (omega (arith, l .counted), rw (k, column-at holes-of all (omega (arith, l .counted, ascending-length ms, p .parted)) m holes (l .at-holes)) (omega (arith, l .gapped)))
 
-    pub joining-longer : (hole exception : ℕ) → hole ≡ getD holes (count - 1) 0 + 1 → exception ≡ r .first - 1
-        → Joining rs first (set last (count - 1) (r .last)) (set holes (count - 1) hole) (set except gaps exception) count (gaps + 1) (r .last) (i + 1)
-    joining-longer hole exception one-more before = go (p .made) (p .laid) (p .ended) (p .whole)
+    pub joining-longer : Joining rs first (set last (count - 1) (r .last)) (set holes (count - 1) (getD holes (count - 1) 0 + 1)) (set except gaps (r .first - 1)) count (gaps + 1) (r .last) (i + 1)
+    joining-longer = go (p .made) (p .laid) (p .ended) (p .whole)
       where
         go : (made : List Comparison) → Laid made first last holes except count gaps → end ≡ endOf made → onto made (joined (drop i rs)) ≡ joined rs
-            → Joining rs first (set last (count - 1) (r .last)) (set holes (count - 1) hole) (set except gaps exception) count (gaps + 1) (r .last) (i + 1)
+            → Joining rs first (set last (count - 1) (r .last)) (set holes (count - 1) (getD holes (count - 1) 0 + 1)) (set except gaps (r .first - 1)) count (gaps + 1) (r .last) (i + 1)
         go [] l e w = absurd (omega arith)
         go (m ∷ ms) l e w =
-            let x : exception ≡ suc (m .range .last) = omega arith in
+            let x : r .first - 1 ≡ suc (m .range .last) = omega arith in
             record {
               made = longer m (r .last) ∷ ms;
-              laid = rw (one-more, x) (laid-longer (r .last) (omega (arith, p .parted)) (omega (arith, p .parted)) l);
+              laid = rw x (laid-longer (r .last) (omega (arith, p .parted)) (omega (arith, p .parted)) l);
               whole = sym (onto-longer m ms r (drop (i + 1) rs) (near ∙ rw e)) ∙ rw (← ahead) w;
               ended = refl;
               parted = omega (arith, p .parted);

@@ -39,9 +39,9 @@ module _ (xs : List ℕ) (b j : ℕ) (inside : j < length xs) where
 pub excepted-none : (xs : List ℕ) (b j : ℕ) → length xs ≤ j → excepted (drop j xs) b ≡ false
 excepted-none xs b j h = rw (drop-of-length-le xs h)
 
--- ---- the next of them
+-- ---- the comparisons, one after another
 
--- as many as each list has
+-- no more than each list has
 pub listed-least : (n : ℕ) (fs ls hs xs : List ℕ) → listed n fs ls hs xs ≡ listed (min n (min (length fs) (min (length ls) (length hs)))) fs ls hs xs
 listed-least zero fs ls hs xs = let e : min zero (min (length fs) (min (length ls) (length hs))) ≡ 0 = omega arith in rw e
 listed-least (suc n) [] ls hs xs = let e : min (suc n) (min 0 (min (length ls) (length hs))) ≡ 0 = omega arith in rw e
@@ -52,7 +52,7 @@ listed-least (suc n) (f ∷ fs) (l ∷ ls) (h ∷ hs) xs =
     rw (e, ← listed-least n fs ls hs (drop h xs))
 
 module _ (fs ls hs xs : List ℕ) where
-  pub listed-next : (n i at : ℕ) → i < n → n ≤ length fs → n ≤ length ls → n ≤ length hs
+  listed-next : (n i at : ℕ) → i < n → n ≤ length fs → n ≤ length ls → n ≤ length hs
       → listed (n - i) (drop i fs) (drop i ls) (drop i hs) (drop at xs)
       ≡ record { range = record { first = getD fs i 0; last = getD ls i 0 }; except = take (getD hs i 0) (drop at xs) }
       ∷ listed (n - (i + 1)) (drop (i + 1) fs) (drop (i + 1) ls) (drop (i + 1) hs) (drop (at + getD hs i 0) xs)
@@ -60,7 +60,7 @@ module _ (fs ls hs xs : List ℕ) where
       let k : n - i ≡ suc (n - (i + 1)) = omega arith in
       rw (k, add-one i, drop-cons fs i 0 (omega arith), drop-cons ls i 0 (omega arith), drop-cons hs i 0 (omega arith), ← drop-drop (getD hs i 0) at xs)
 
-  -- whose exceptions end at `end`, and then those after it
+  -- the next one, whose exceptions end at `end`, or one of those after it
   pub some-next : (n i at end b : ℕ) → i < n → n ≤ length fs → n ≤ length ls → n ≤ length hs → at ≤ length xs → end ≡ min (at + getD hs i 0) (length xs)
       → someHolds (listed (n - i) (drop i fs) (drop i ls) (drop i hs) (drop at xs)) b
       ≡ (holds (record { range = record { first = getD fs i 0; last = getD ls i 0 }; except = take (end - at) (drop at xs) }) b

@@ -25,7 +25,7 @@ pub struct Comparisons {
     pub count: usize,
 }
 
-// The maximal ranges of a class that is passed whole, in one pass over its flags.
+// The maximal ranges of a class, in one pass over its flags. It comes by value, since only then its length is known to the proof.
 fn runs(class: [bool; 256]) -> ByteClass
     ensures { λ r. ⌜ r ≡ asByteClass (ranges class) ⌝ }
     ensures room { λ r. ⌜ r .count ≤ 128 ⌝ }
@@ -85,6 +85,7 @@ pub fn impl_with_cmp(class: &[bool; 256]) -> Comparisons
         let from = held.first[i];
         let upto = held.last[i];
         if from as usize == end + 2 {
+            // the byte between is an exception of the latest
             let latest = count - 1;
             except[gaps] = from - 1;
             gaps += 1;
@@ -163,7 +164,7 @@ fn least(a: usize, b: usize) -> usize
     if a < b { a } else { b }
 }
 
-// Whether one of the comparisons holds of the byte. The arrays are those of `Comparisons`, lent one by one.
+// Whether one of `count` comparisons holds of the byte. The slices are the arrays of `Comparisons`, lent one by one, or parts of longer ones.
 pub fn some_holds<'a>(
     first: &'a [u8],
     last: &'a [u8],

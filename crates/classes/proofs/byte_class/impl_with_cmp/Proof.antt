@@ -2,7 +2,7 @@
 -- the ranges. Assumes nothing.
 use borrow.Author.Needs.{needs}
 use mathlib.Core.Logic.{⊎-elim}
-use mathlib.Core.Path.{_≡_, refl}
+use mathlib.Core.Path.{_≡_}
 use mathlib.Core.List.{_∷_}
 use Prim.Native.Nat.{suc, _-_, _≤_}
 use native.Mathlib.Omega.{arith}
@@ -115,7 +115,7 @@ loop-again c =
       omega arith,
       omega arith,
       ⊎-elim
-          (λ w. rw (w .1, w .2, w .3, w .4, w .5, w .6) (joining-longer r (next (c .before)) p (w .0 .taken) (omega arith) (omega arith) _ _ refl refl))
+          (λ w. rw (w .1, w .2, w .3, w .4, w .5, w .6) (joining-longer r (next (c .before)) p (w .0 .taken) (omega arith) (omega arith)))
           (λ w. rw (w .1, w .2, w .3, w .4, w .5, w .6) (joining-alone r (next (c .before)) p (w .0 .left) (omega arith)))
           (c .if1 .came),
     )
