@@ -8,7 +8,9 @@ mod graphs;
 mod original;
 mod priorities;
 mod random;
+mod readings;
 mod tables;
+mod walks;
 mod words;
 
 use random::Random;
@@ -18,7 +20,8 @@ const USAGE: &str = "oracle cases NAME SEED COUNT
 oracle answers NAME < cases
 oracle list NAME IMAGE..
 oracle print < image
-NAME: classes, priorities, builds, display";
+oracle scan IMAGE < text
+NAME: classes, priorities, builds, display, readings";
 
 fn main() {
     let args = std::env::args().skip(1).collect::<Vec<_>>();
@@ -28,6 +31,7 @@ fn main() {
         ["answers", name] => answers(name),
         ["list", name, ref images @ ..] => list(name, images),
         ["print"] => print(),
+        ["scan", path] => scan(path),
         _ => None,
     };
     if done.is_none() {
@@ -43,6 +47,7 @@ fn cases(name: &str, seed: usize, count: usize) -> Option<()> {
         "priorities" => Box::new(move || priorities::random_case(&mut random).line()),
         "builds" => Box::new(move || builds::random_case(&mut random).line()),
         "display" => Box::new(move || display::random_case(&mut random).line()),
+        "readings" => Box::new(move || readings::random_case(&mut random).line()),
         _ => return None,
     };
     let mut out = std::io::BufWriter::new(std::io::stdout().lock());
@@ -58,6 +63,7 @@ fn answers(name: &str) -> Option<()> {
         "priorities" => |line| priorities::Case::of_line(line).answer(),
         "builds" => |line| builds::Case::of_line(line).answer(),
         "display" => |line| display::Case::of_line(line).answer(),
+        "readings" => |line| readings::Case::of_line(line).answer(),
         _ => return None,
     };
     let mut out = std::io::BufWriter::new(std::io::stdout().lock());
@@ -74,21 +80,43 @@ fn list(name: &str, images: &[&str]) -> Option<()> {
         "priorities" => priorities::list(),
         "builds" => builds::list(&images),
         "display" => display::list(),
+        "readings" => readings::list(&images),
         _ => return None,
     };
     std::io::stdout().write_all(&bytes).expect("standard output");
     Some(())
 }
 
-/// The words of an image, low byte first.
-fn image(path: &str) -> Vec<u16> {
-    let bytes = std::fs::read(path).unwrap_or_else(|error| panic!("{path}: {error}"));
+/// The words of an image and the sample text beside it.
+fn image(path: &str) -> (Vec<u16>, Vec<u8>) {
+    let read = |path: &str| std::fs::read(path).unwrap_or_else(|error| panic!("{path}: {error}"));
+    (words_of_image(&read(path)), read(&path.replace(".image", ".sample")))
+}
+
+/// Low byte first.
+fn words_of_image(bytes: &[u8]) -> Vec<u16> {
     bytes.chunks_exact(2).map(|pair| u16::from_le_bytes([pair[0], pair[1]])).collect()
 }
 
+/// What the graph printer prints for the image on standard input.
 fn print() -> Option<()> {
     let mut bytes = Vec::new();
     std::io::stdin().read_to_end(&mut bytes).expect("standard input");
     std::io::stdout().write_all(builds::printed(&bytes).as_bytes()).expect("standard output");
+    Some(())
+}
+
+/// The scan of the text on standard input by an image's graph.
+fn scan(path: &str) -> Option<()> {
+    let bytes = std::fs::read(path).unwrap_or_else(|error| panic!("{path}: {error}"));
+    let mut text = Vec::new();
+    std::io::stdin().read_to_end(&mut text).expect("standard input");
+    for (leaf, start, end) in walks::scan(&builds::built(&words_of_image(&bytes)).graph, &text, 0) {
+        match leaf {
+            Some(leaf) => println!("token {leaf} {start} {end}"),
+            None => println!("gap {start} {end}"),
+        }
+    }
+    println!("ended");
     Some(())
 }

@@ -180,12 +180,12 @@ fn store(stored: &mut Stored, case: &Case) {
 }
 
 /// The list, with these images among its tables.
-pub fn list(images: &[Vec<u16>]) -> Vec<u8> {
+pub fn list(images: &[(Vec<u16>, Vec<u8>)]) -> Vec<u8> {
     let mut stored = Stored::default();
     let mut random = Random::new(6);
     let mut tables = single_words().iter().map(Table::words).collect::<Vec<_>>();
     tables.extend(large(&mut random));
-    tables.extend(images.iter().cloned());
+    tables.extend(images.iter().map(|(image, _)| image.clone()));
     tables.extend((0..120).map(|round| within(500, || wild(&mut random, 2 + round % 9))));
     tables.extend((0..10).map(|_| within(1500, || wild(&mut random, 40))));
     tables.extend((0..3).map(|_| dense(&mut random, 6).words()));
