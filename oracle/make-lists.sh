@@ -10,7 +10,7 @@ for image in "$DATA"/*.image; do
     target/oracle/oracle scan "$image" <"${image%.image}.sample" | cmp - "${image%.image}.scan"
 done
 mkdir -p oracle/lists
-for name in classes priorities builds display readings; do
+for name in classes priorities builds display readings plans; do
     target/oracle/oracle list "$name" "$DATA"/*.image >"oracle/lists/$name.bin"
 done
 ls -l oracle/lists

@@ -11,6 +11,7 @@ sys.path.insert(0, os.path.join(os.path.dirname(os.path.abspath(__file__)), "pap
 import builds as building
 import classes as classing
 import graphs
+import plans as planning
 import readings as reading
 import tables
 import texts
@@ -224,7 +225,50 @@ def texts_of_graph(stored, graph):
             stored.same(reading.scan(graph, text, offset), stored_pieces(stored, offset), "scan")
 
 
-REPLAYS = {"classes": classes, "priorities": priorities, "builds": builds, "display": display, "readings": readings}
+# ---- plans
+
+
+def plans(stored):
+    for _ in range(stored.word()):
+        words, fill = stored.words(), stored.byte()
+        held = [classing.class_of(stored.bytes(32)) for _ in range(stored.byte())]
+        count, buffer, refusal = stored.word(), stored.word(), stored.byte()
+        before = planning.tables_of(fill, held)
+        try:
+            (chosen, store), found = planning.planned(words, before, count, buffer), 0
+        except Refused as refused:
+            found = refused.args[0]
+        stored.same(found, refusal, "refusal")
+        if refusal == 0:
+            stored.same(chosen, stored.words(), "plan")
+            added = [classing.class_of(stored.bytes(32)) for _ in range(stored.byte())]
+            stored.same(store[count:], added, "classes added")
+            after = planning.tables_of(fill, store)
+            for _ in range(stored.half()):
+                one_run(stored, words, chosen, [(before, count), (after, len(store))])
+
+
+def one_run(stored, words, chosen, stores):
+    tables, count = stores[stored.byte()]
+    given, at, value = chosen[: stored.half()], stored.half(), stored.half()
+    if at != 65535:
+        given[at] = value
+    text = stored.bytes(stored.half())
+    try:
+        refusal, found = 0, planning.run(words, tables, count, given, text)
+    except Refused as refused:
+        refusal, found = refused.args[0], None
+    stored.same((refusal, found), (stored.byte(), stored_reading(stored)), "run")
+
+
+REPLAYS = {
+    "classes": classes,
+    "priorities": priorities,
+    "builds": builds,
+    "display": display,
+    "readings": readings,
+    "plans": plans,
+}
 
 
 def main():

@@ -9,6 +9,7 @@ import sys
 sys.dont_write_bytecode = True
 import builds
 import classes
+import plans
 import readings
 import texts
 import trees
@@ -19,6 +20,7 @@ LINES = {
     "builds": builds.line,
     "display": texts.line,
     "readings": readings.line,
+    "plans": plans.line,
 }
 
 

@@ -6,6 +6,7 @@ mod display;
 mod form;
 mod graphs;
 mod original;
+mod plans;
 mod priorities;
 mod random;
 mod readings;
@@ -21,7 +22,7 @@ oracle answers NAME < cases
 oracle list NAME IMAGE..
 oracle print < image
 oracle scan IMAGE < text
-NAME: classes, priorities, builds, display, readings";
+NAME: classes, priorities, builds, display, readings, plans";
 
 fn main() {
     let args = std::env::args().skip(1).collect::<Vec<_>>();
@@ -48,6 +49,7 @@ fn cases(name: &str, seed: usize, count: usize) -> Option<()> {
         "builds" => Box::new(move || builds::random_case(&mut random).line()),
         "display" => Box::new(move || display::random_case(&mut random).line()),
         "readings" => Box::new(move || readings::random_case(&mut random).line()),
+        "plans" => Box::new(move || plans::random_case(&mut random).line()),
         _ => return None,
     };
     let mut out = std::io::BufWriter::new(std::io::stdout().lock());
@@ -64,6 +66,7 @@ fn answers(name: &str) -> Option<()> {
         "builds" => |line| builds::Case::of_line(line).answer(),
         "display" => |line| display::Case::of_line(line).answer(),
         "readings" => |line| readings::Case::of_line(line).answer(),
+        "plans" => |line| plans::Case::of_line(line).answer(),
         _ => return None,
     };
     let mut out = std::io::BufWriter::new(std::io::stdout().lock());
@@ -81,6 +84,7 @@ fn list(name: &str, images: &[&str]) -> Option<()> {
         "builds" => builds::list(&images),
         "display" => display::list(),
         "readings" => readings::list(&images),
+        "plans" => plans::list(&images),
         _ => return None,
     };
     std::io::stdout().write_all(&bytes).expect("standard output");

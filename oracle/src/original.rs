@@ -34,6 +34,11 @@ fn leaf(priority: usize, empty: bool) -> Leaf {
     Leaf::new(Span::call_site(), pattern).priority(priority)
 }
 
+/// So many leaves of which nothing is asked.
+pub fn leaves(count: usize) -> Vec<Leaf> {
+    vec![leaf(0, false); count]
+}
+
 /// `Graph::new` over the stand-in that answers from a table, which conditions 1 to 7 take.
 pub fn graph_of_table(words: &[u16]) -> Graph {
     let table = checked(words).expect("a legal table");

@@ -10,7 +10,7 @@ use crate::words::{words_of, words_text};
 mod cases;
 mod list;
 
-pub use cases::random_case;
+pub use cases::{random_case, text_for_graph};
 pub use list::list;
 
 pub enum Case {
