@@ -1,6 +1,16 @@
 pub mod Ranges
+pub mod Rows
+pub mod FlagPass
+pub mod Joining
+pub mod Listed
+pub mod Costs
 pub mod Bits
 pub mod Numbers
+pub mod Search
 pub mod MaskLaws
 pub mod Growth
+pub mod Adding
+pub mod Several
 pub mod Writing
+pub mod Luts
+pub mod Values

@@ -1,0 +1,4 @@
+pub mod Runs
+pub mod Decimals
+pub mod Escapes
+pub mod Rows

@@ -1,0 +1,56 @@
+// The text of a class of bytes (`ByteClass` in the Rust).
+ghost use mathlib.Core.Path.{_≡_};
+ghost use Prim.Native.Nat.{_<_};
+ghost use Rattle.display.specs.Text.{Wrote, Counts};
+ghost use Rattle.display.specs.Display.{hexDigit, letterOf, escaped, rangeText};
+use crate::put;
+
+// The letter after the backslash, of a byte that is written so; 0 of another.
+fn letter(b: u8) -> u8
+    ensures { λ r. ⌜ r ≡ letterOf b ⌝ }
+{
+    match b {
+        b'\t' => b't',
+        b'\r' => b'r',
+        b'\n' => b'n',
+        b'\'' | b'"' | b'\\' => b,
+        _ => 0,
+    }
+}
+
+// A digit of a number in hexadecimal, in lower case.
+fn hex_digit(d: u8) -> u8
+    requires { ⌜ d < 16 ⌝ }
+    ensures { λ r. ⌜ r ≡ hexDigit d ⌝ }
+{
+    if d < 10 { 48 + d } else { 87 + d }
+}
+
+// A byte as `escape_default` gives it.
+pub fn escape_default(out: &mut [u8], at: usize, b: u8) -> usize
+    requires { ⌜ Counts at (escaped b) ⌝ }
+    ensures { λ r. ⌜ Wrote (now (out .entry)) at (escaped b) (now (out .exit)) r ⌝ }
+{
+    let letter = letter(b);
+    if 0 < letter {
+        return put::pair(out, at, b'\\', letter);
+    }
+    if 32 <= b && b <= 126 {
+        return put::byte(out, at, b);
+    }
+    let next = put::pair(out, at, b'\\', b'x');
+    put::pair(out, next, hex_digit(b / 16), hex_digit(b % 16))
+}
+
+// A range: its first byte, and its last if that is another.
+pub fn range(out: &mut [u8], at: usize, first: u8, last: u8) -> usize
+    requires { ⌜ Counts at (rangeText first last) ⌝ }
+    ensures { λ r. ⌜ Wrote (now (out .entry)) at (rangeText first last) (now (out .exit)) r ⌝ }
+{
+    if first == last {
+        return escape_default(out, at, first);
+    }
+    let next = escape_default(out, at, first);
+    let next = put::text(out, next, b"..=");
+    escape_default(out, next, last)
+}

@@ -1,0 +1,6 @@
+pub mod Read
+pub mod Buffers
+pub mod Steps
+pub mod Children
+pub mod Marking
+pub mod Parents

@@ -1,0 +1,1 @@
+// Rules 2 to 4: the first rows of the graph.
