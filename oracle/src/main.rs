@@ -4,6 +4,7 @@ mod builds;
 mod classes;
 mod display;
 mod form;
+mod generated;
 mod graphs;
 mod original;
 mod plans;
@@ -22,7 +23,8 @@ oracle answers NAME < cases
 oracle list NAME IMAGE..
 oracle print < image
 oracle scan IMAGE < text
-NAME: classes, priorities, builds, display, readings, plans";
+oracle program < cases of generated
+NAME: classes, priorities, builds, display, readings, plans, generated";
 
 fn main() {
     let args = std::env::args().skip(1).collect::<Vec<_>>();
@@ -33,6 +35,7 @@ fn main() {
         ["list", name, ref images @ ..] => list(name, images),
         ["print"] => print(),
         ["scan", path] => scan(path),
+        ["program"] => program(),
         _ => None,
     };
     if done.is_none() {
@@ -41,20 +44,22 @@ fn main() {
     }
 }
 
+/// So many random cases, a line each; for generated code so many tables, with a line for each of their texts.
 fn cases(name: &str, seed: usize, count: usize) -> Option<()> {
-    let mut random = Random::new(seed as u64);
-    let mut next: Box<dyn FnMut() -> String> = match name {
-        "classes" => Box::new(move || classes::random_case(&mut random).line()),
-        "priorities" => Box::new(move || priorities::random_case(&mut random).line()),
-        "builds" => Box::new(move || builds::random_case(&mut random).line()),
-        "display" => Box::new(move || display::random_case(&mut random).line()),
-        "readings" => Box::new(move || readings::random_case(&mut random).line()),
-        "plans" => Box::new(move || plans::random_case(&mut random).line()),
+    let next: fn(&mut Random) -> String = match name {
+        "classes" => |random| classes::random_case(random).line(),
+        "priorities" => |random| priorities::random_case(random).line(),
+        "builds" => |random| builds::random_case(random).line(),
+        "display" => |random| display::random_case(random).line(),
+        "readings" => |random| readings::random_case(random).line(),
+        "plans" => |random| plans::random_case(random).line(),
+        "generated" => |random| generated::random_cases(random).iter().map(readings::Case::line).collect::<Vec<_>>().join("\n"),
         _ => return None,
     };
+    let mut random = Random::new(seed as u64);
     let mut out = std::io::BufWriter::new(std::io::stdout().lock());
     for _ in 0..count {
-        writeln!(out, "{}", next()).expect("standard output");
+        writeln!(out, "{}", next(&mut random)).expect("standard output");
     }
     Some(())
 }
@@ -67,6 +72,7 @@ fn answers(name: &str) -> Option<()> {
         "display" => |line| display::Case::of_line(line).answer(),
         "readings" => |line| readings::Case::of_line(line).answer(),
         "plans" => |line| plans::Case::of_line(line).answer(),
+        "generated" => generated::answer,
         _ => return None,
     };
     let mut out = std::io::BufWriter::new(std::io::stdout().lock());
@@ -107,6 +113,13 @@ fn print() -> Option<()> {
     let mut bytes = Vec::new();
     std::io::stdin().read_to_end(&mut bytes).expect("standard input");
     std::io::stdout().write_all(builds::printed(&bytes).as_bytes()).expect("standard output");
+    Some(())
+}
+
+/// The program of the generated code for the cases on standard input.
+fn program() -> Option<()> {
+    let lines = std::io::stdin().lock().lines().collect::<Result<Vec<_>, _>>().expect("standard input");
+    std::io::stdout().write_all(generated::program(&lines).as_bytes()).expect("standard output");
     Some(())
 }
 
