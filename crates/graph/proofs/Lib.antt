@@ -5,3 +5,4 @@ pub mod Outcomes
 pub mod ReadingsAlike
 pub mod AllReached
 pub mod NoEqualStates
+pub mod Unpacking
