@@ -6,3 +6,4 @@ pub mod ReadingsAlike
 pub mod AllReached
 pub mod NoEqualStates
 pub mod Unpacking
+pub mod Stages
