@@ -13,10 +13,5 @@ pub mod Buffers
 pub mod Rising
 pub mod Sorted
 pub mod Selections
-pub mod Buffers
 pub mod Grid
-pub mod Judged
-pub mod Those
-pub mod Any
-pub mod Padded
-pub mod Rising
+pub mod Runs
