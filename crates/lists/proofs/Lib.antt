@@ -14,3 +14,4 @@ pub mod Rising
 pub mod Sorted
 pub mod Selections
 pub mod Grid
+pub mod Runs
