@@ -9,3 +9,4 @@ pub mod Buffers
 pub mod Rising
 pub mod Sorted
 pub mod Selections
+pub mod Runs

@@ -4,3 +4,4 @@ pub mod Ascents
 pub mod Conflicts
 pub mod Slotted
 pub mod Orders
+pub mod Listing

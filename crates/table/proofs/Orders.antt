@@ -32,7 +32,7 @@ sorting-none w set n e =
       inside = omega arith;
       few = omega arith;
       long = length-replicate {A = ℕ} 1024 0;
-      held = record { few = omega arith; low = λ j h. absurd (not-suc-le-zero h) };
+      held = record { few = omega arith; long = omega arith; low = λ j h. absurd (not-suc-le-zero h) };
       ties = sym (ap sorted (ap (tiesOn (tableOf w) (getD w 0 0) set) e ∙ ties-end (tableOf w) (getD w 0 0) set));
     }
 

@@ -199,7 +199,7 @@ module _ (l : List ℕ) (k p v : ℕ) (low : p ≤ k) (room : k < length l) wher
       ∙ ap (insert (f v)) (sym q)
 
   pub put-held : (r : ℕ) → Held r l k → v ≤ r → k < 1024 → Held r (putIn l k p v) (k + 1)
-  put-held r h b few = record { few = omega arith; low = λ j g. subst (λ (x : ℕ). x ≤ r) (sym (here j g)) (go j g (order j p)) }
+  put-held r h b few = record { few = omega arith; long = let e = put-length in omega arith; low = λ j g. subst (λ (x : ℕ). x ≤ r) (sym (here j g)) (go j g (order j p)) }
     where
       front : List ℕ
       front = take p l ++ (v ∷ after)

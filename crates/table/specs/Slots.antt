@@ -26,6 +26,7 @@ putIn l k p v = take p l ++ (v ∷ (take (k - p) (drop p l) ++ drop (suc k) l))
 -- the first k are 0 or numbers of the r records
 pub record Held (r : ℕ) (l : List ℕ) (k : ℕ) : Type 0 where
   pub few : k ≤ 1024
+  pub long : k ≤ length l
   pub low : (j : ℕ) → j < k → getD l j 0 ≤ r
 
 -- and the ties that begin there stand in order

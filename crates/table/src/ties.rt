@@ -1,18 +1,23 @@
 // The conflict list: EmptyMatch of rule 1 and Disambiguation of rule 3. How many words it takes, and its words. A tie is known by the match record
 // where it begins, and walked by `next_tied`.
 ghost use mathlib.Core.Path.{_≡_};
-ghost use mathlib.Core.List.{flatMap, map};
-ghost use Prim.Native.Nat.{_<_, _≤_};
+ghost use mathlib.Core.List.{[], _∷_, flatMap, map};
+ghost use Prim.Native.Nat.{_+_, _<_, _≤_};
 ghost use lib.ListN.{length, getD, take};
+ghost use lib.Seq.{sets};
 ghost use Rattle.lists.specs.Lists.{before};
 ghost use Rattle.rules.specs.Table.{tableOf, refusal};
-ghost use Rattle.rules.specs.Build.{disambiguation, errorWords, ties};
+ghost use Rattle.rules.specs.Build.{noUniversalStart, emptyMatch, disambiguation, errorWords, emptyLeaves, ties};
 ghost use Rattle.table.specs.Chains.{tieFrom};
 ghost use Rattle.table.specs.Slots.{tiedAt, slot, putIn, Held, InOrder};
+ghost use Rattle.table.specs.Listed.{listed};
 use crate::leaf::match_leaf;
 use crate::leaf::next_tied;
 use crate::leaf::top;
+use words::table::leaf_place;
+use words::table::leaves;
 use words::table::states;
+use words::word;
 
 // The record where state s's tie begins; 0 if it has none.
 fn tied(table: &[u16], s: usize) -> usize
@@ -162,4 +167,70 @@ fn tie_order(table: &[u16], set: &[bool; 1024]) -> TieOrder
         }
     }
     TieOrder { order, count }
+}
+
+// Writes the error of the tie from record i at place `at`; answers the place after it.
+fn write_tie(table: &[u16], i: usize, errors: &mut [u16], at: usize) -> usize
+    requires { ⌜ refusal (now table) ≡ 0 ⌝ }
+    requires { ⌜ i ≤ getD (now table) 3 0 ⌝ }
+    requires { ⌜ at + length (errorWords (disambiguation (tieFrom (tableOf (now table)) i))) ≤ length (now errors) ⌝ }
+    ensures { λ r. ⌜ r ≡ at + length (errorWords (disambiguation (tieFrom (tableOf (now (table .entry))) i))) ⌝ }
+    ensures { λ _. ⌜ now (errors .exit) ≡ sets (now (errors .entry)) at (errorWords (disambiguation (tieFrom (tableOf (now (table .entry))) i))) ⌝ }
+{
+    errors[at] = 2;
+    errors[at + 1] = tie_length(table, i) as u16;
+    let mut k = at + 2;
+    let mut j = i;
+    while j != 0 {
+        errors[k] = match_leaf(table, j) as u16;
+        k += 1;
+        j = next_tied(table, j);
+    }
+    k
+}
+
+// Rule 3: writes the errors of a set's ties.
+pub fn write_ties(table: &[u16], set: &[bool; 1024], errors: &mut [u16])
+    requires { ⌜ refusal (now table) ≡ 0 ⌝ }
+    requires { ⌜ length (flatMap errorWords (ties (tableOf (now table)) (take (getD (now table) 0 0) (now set)))) ≤ length (now errors) ⌝ }
+    ensures { λ _. ⌜ now (errors .exit) ≡ listed (ties (tableOf (now (table .entry))) (take (getD (now (table .entry)) 0 0) (now (set .entry)))) (now (errors .entry)) ⌝ }
+{
+    let sorted = tie_order(table, set);
+    let order = sorted.order;
+    let count = sorted.count;
+    let mut at: usize = 0;
+    let mut k: usize = 0;
+    while k < count {
+        at = write_tie(table, order[k] as usize, errors, at);
+        k += 1;
+    }
+}
+
+// Rule 1, where a leaf can match empty text: writes an error for each such leaf.
+pub fn write_empty(table: &[u16], errors: &mut [u16])
+    requires { ⌜ refusal (now table) ≡ 0 ⌝ }
+    requires { ⌜ length (flatMap errorWords (map emptyMatch (emptyLeaves (tableOf (now table))))) ≤ length (now errors) ⌝ }
+    ensures { λ _. ⌜ now (errors .exit) ≡ listed (map emptyMatch (emptyLeaves (tableOf (now (table .entry))))) (now (errors .entry)) ⌝ }
+{
+    let m = leaves(table);
+    let mut at: usize = 0;
+    let mut l: usize = 0;
+    while l < m {
+        if word(table, leaf_place(l, 2)) == 1 {
+            errors[at] = 1;
+            errors[at + 1] = 1;
+            errors[at + 2] = l as u16;
+            at += 3;
+        }
+        l += 1;
+    }
+}
+
+// Rule 1, where there is no universal start: writes its error.
+pub fn write_no_start(errors: &mut [u16])
+    requires { ⌜ 2 ≤ length (now errors) ⌝ }
+    ensures { λ _. ⌜ now (errors .exit) ≡ listed (noUniversalStart ∷ []) (now (errors .entry)) ⌝ }
+{
+    errors[0] = 0;
+    errors[1] = 0;
 }
