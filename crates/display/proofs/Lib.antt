@@ -2,3 +2,5 @@ pub mod Runs
 pub mod Decimals
 pub mod Escapes
 pub mod Rows
+pub mod Joins
+pub mod Bars
