@@ -4,3 +4,4 @@ pub mod Escapes
 pub mod Rows
 pub mod Joins
 pub mod Bars
+pub mod Lines
