@@ -5,3 +5,4 @@ pub mod Rows
 pub mod Joins
 pub mod Bars
 pub mod Lines
+pub mod Parts

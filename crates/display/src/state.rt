@@ -6,7 +6,7 @@ ghost use Prim.Native.Nat.{_/_, _%_, _<_};
 ghost use lib.ListN.{getD};
 ghost use Rattle.rules.specs.Graph.{stateOf, orNone, graphFrom, graphFits};
 ghost use Rattle.display.specs.Text.{after, bytes, Wrote, Counts};
-ghost use Rattle.display.specs.Display.{markText, firstLine, edgeLine, edgeLines, endLines};
+ghost use Rattle.display.specs.Display.{markText, firstLine, edgeLine, edgeLines, endLines, stateText};
 use crate::byte_class;
 use crate::edges;
 use crate::put;
@@ -76,4 +76,19 @@ fn end_line(out: &mut [u8], at: usize, target: usize) -> usize
         return at;
     }
     put::numbered(out, at, b"\n    EOI => state", target)
+}
+
+// The text of state s: its marks, each class and target, EOI.
+pub fn state(out: &mut [u8], at: usize, graph: &[u16], s: usize) -> usize
+    requires { ⌜ graphFits (now graph) ≡ true ⌝ }
+    requires { ⌜ s < getD (now graph) 0 0 ⌝ }
+    requires { ⌜ Counts at (stateText (getD (now graph) 0 0) s (stateOf (graphFrom (now graph)) s)) ⌝ }
+    ensures { λ r. ⌜ Wrote (now (out .entry)) at (stateText (getD (now (graph .entry)) 0 0) s (stateOf (graphFrom (now (graph .entry))) s)) (now (out .exit)) r ⌝ }
+{
+    let marks = words::graph::word(graph, s, 257);
+    let end = words::graph::word(graph, s, 256);
+    let next = first_line(out, at, s, marks);
+    let next = edge_lines(out, next, graph, s);
+    let next = end_line(out, next, end);
+    put::text(out, next, b"\n  }")
 }
