@@ -6,3 +6,4 @@ pub mod Joins
 pub mod Bars
 pub mod Lines
 pub mod Parts
+pub mod States

@@ -2,5 +2,6 @@
 
 pub mod byte_class;
 pub mod edges;
+pub mod graph;
 pub mod put;
 pub mod state;
