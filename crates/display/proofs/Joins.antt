@@ -1,10 +1,10 @@
 -- Texts in a row: the first, the next, none left. Assumes nothing.
 use mathlib.Core.Path.{_≡_, refl, sym, ap, _∙_}
 use mathlib.Core.List.{List, [], _∷_, _++_, map, append-assoc}
-use Prim.Native.Nat.{ℕ, zero, suc, _+_, _≤_, _<_}
+use Prim.Native.Nat.{ℕ, _+_, _≤_, _<_}
 use native.Mathlib.Numerals.{add-one}
 use native.Mathlib.Omega.{arith}
-use lib.ListN.{length, getD, drop, drop-of-length-le}
+use lib.ListN.{length, getD, drop, length-append, drop-of-length-le}
 use lib.Seq.{drop-cons}
 use Rattle.display.specs.Text.{after, joined}
 
@@ -14,6 +14,11 @@ after-append sep (t ∷ a) b =
     ap (λ (l : List ℕ). sep ++ (t ++ l)) (after-append sep a b)
     ∙ ap (λ (l : List ℕ). sep ++ l) (sym (append-assoc t (after sep a) (after sep b)))
     ∙ sym (append-assoc sep (t ++ after sep a) (after sep b))
+
+-- a separator before the first too is no shorter
+pub joined-after : (sep : List ℕ) (ts : List (List ℕ)) → length (joined sep ts) ≤ length (after sep ts)
+joined-after sep [] = omega arith
+joined-after sep (t ∷ ts) = let e = length-append sep (t ++ after sep ts) in omega arith
 
 module _ {A : Type 0} (sep : List ℕ) (f : A → List ℕ) (l : List A) where
   pub joined-none : length l ≤ 0 → joined sep (map f l) ≡ []

@@ -7,3 +7,6 @@ pub mod Bars
 pub mod Lines
 pub mod Parts
 pub mod States
+pub mod ClassSize
+pub mod Sizes
+pub mod Members

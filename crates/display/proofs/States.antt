@@ -26,19 +26,19 @@ module _ (w : List ℕ) where
   count : length (below n) ≡ n
   count = length-tab 0 n (λ i. i)
 
-  all : displayed (graphFrom w) ≡ joined (bytes "\n") (map textOf (below n))
+  pub display-all : displayed (graphFrom w) ≡ joined (bytes "\n") (map textOf (below (getD w 0 0)))
   unfolding displayed graphFrom
-  all =
+  display-all =
       ap (λ (k : ℕ). joined (bytes "\n") (map (λ s. stateText k s (stateOf (graphFrom w) s)) (below k)))
       (length-map (pieces 258 n (drop 2 w)) stateFrom ∙ pieces-length 258 n (drop 2 w))
 
   pub display-none : n ≡ 0 → displayed (graphFrom w) ≡ []
-  display-none h = all ∙ joined-none (bytes "\n") textOf (below n) (let c = count in omega arith)
+  display-none h = display-all ∙ joined-none (bytes "\n") textOf (below n) (let c = count in omega arith)
 
   pub display-first : 0 < n → displayed (graphFrom w) ≡ textOf 0 ++ listed 1
   unfolding listed
   display-first h =
-      all
+      display-all
       ∙ joined-first (bytes "\n") textOf (below n) 0 (let c = count in omega arith)
       ∙ ap (λ (s : ℕ). textOf s ++ listed 1) (getD-tab0 n (λ i. i) 0 0 h)
 
