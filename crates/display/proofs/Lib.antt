@@ -10,3 +10,4 @@ pub mod States
 pub mod ClassSize
 pub mod Sizes
 pub mod Members
+pub mod Calls

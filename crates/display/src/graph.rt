@@ -3,7 +3,7 @@ ghost use mathlib.Core.Path.{_≡_};
 ghost use mathlib.Core.Bool.{true};
 ghost use mathlib.Core.List.{_++_};
 ghost use Prim.Native.Nat.{_<_};
-ghost use lib.ListN.{getD};
+ghost use lib.ListN.{length, getD};
 ghost use Rattle.rules.specs.Graph.{stateOf, graphFrom, graphFits};
 ghost use Rattle.display.specs.Text.{bytes, Wrote, Counts};
 ghost use Rattle.display.specs.Display.{stateText, displayed};
@@ -22,7 +22,7 @@ fn next_state(out: &mut [u8], at: usize, graph: &[u16], s: usize) -> usize
 }
 
 // The states of a graph, ascending, with a line end between two.
-fn states(out: &mut [u8], at: usize, graph: &[u16]) -> usize
+pub fn states(out: &mut [u8], at: usize, graph: &[u16]) -> usize
     requires { ⌜ graphFits (now graph) ≡ true ⌝ }
     requires { ⌜ Counts at (displayed (graphFrom (now graph))) ⌝ }
     ensures { λ r. ⌜ Wrote (now (out .entry)) at (displayed (graphFrom (now (graph .entry)))) (now (out .exit)) r ⌝ }
@@ -38,4 +38,13 @@ fn states(out: &mut [u8], at: usize, graph: &[u16]) -> usize
         s += 1;
     }
     next
+}
+
+// The length of a graph's text.
+pub fn length(graph: &[u16]) -> usize
+    requires { ⌜ graphFits (now graph) ≡ true ⌝ }
+    ensures { λ r. ⌜ r ≡ length (displayed (graphFrom (now (graph .entry)))) ⌝ }
+{
+    let mut none = [0u8; 0];
+    states(&mut none, 0, graph)
 }
