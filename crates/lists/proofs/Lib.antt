@@ -5,3 +5,5 @@ pub mod Closure
 pub mod Worklist
 pub mod Numbering
 pub mod Distinct
+pub mod Disjunctions
+pub mod Intervals
