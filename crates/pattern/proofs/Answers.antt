@@ -6,7 +6,7 @@ use Prim.Native.Nat.{ℕ, _<_, _≤_}
 use native.Mathlib.Omega.{arith}
 use Rattle.lists.proofs.Bools.{Is, is, yes-is, no-is}
 use Rattle.pattern.specs.Tree.{Tree, count, treeAt, root, treeFits}
-use Rattle.pattern.specs.Priority.{priority, tooHigh, priorityOf, greedyOf}
+use Rattle.pattern.specs.Priority.{priority, greedyAll, tooHigh, priorityOf, greedyOf}
 use Rattle.pattern.specs.Priced.{passes, answer, priced}
 use Rattle.pattern.specs.Held.{Within}
 use Rattle.pattern.specs.declared.values.Priced.{Priced}
@@ -28,6 +28,10 @@ module _ (w bytes : List ℕ) where
   no-greedy-tree e = rw e
 
   module _ (fits : treeFits w bytes ≡ true) where
+    pub greedy-told : (b : Bool) → b ≡ greedyAll (root w bytes) → greedy-answer.Found b ≡ greedyOf w bytes
+    unfolding greedyOf
+    greedy-told b e = rw (fits, e)
+
     pub root-held : Within w bytes (count w) × (0 < count w)
     root-held = (record { fits = fits; below = omega arith }, tree-rules w bytes fits .some)
 

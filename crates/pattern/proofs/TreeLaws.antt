@@ -58,6 +58,7 @@ record-rules w size i h =
 
 pub record TreeRules (w : List ℕ) (size : ℕ) : Type 0 where
   pub some : 1 ≤ count w
+  pub most : count w ≤ 1024
   pub each : allL (recordFits w size) (numbers w) ≡ true
   pub last : recordOf w (count w) .next ≡ 0
   pub others : allL (λ i. eqb i (count w) || leb 1 (named w i)) (numbers w) ≡ true
@@ -75,7 +76,7 @@ tree-rules w bytes h =
     let hc = and-both c _ (hd .0) in
     let hb = and-both b _ (hc .0) in
     let ha = and-both a _ (hb .0) in
-    record { some = leb-true _ _ (and-both (eqb (length w % 6) 0) _ (ha .0) .1); each = hb .1; last = eqb-true _ _ (hd .1); others = he .1 }
+    record { some = leb-true _ _ (and-both (eqb (length w % 6) 0) _ (ha .0) .1); most = leb-true _ _ (ha .1); each = hb .1; last = eqb-true _ _ (hd .1); others = he .1 }
 
 module _ (w bytes : List ℕ) (fits : treeFits w bytes ≡ true) where
   module _ (i : ℕ) (p : 0 < i) (h : i ≤ count w) where
