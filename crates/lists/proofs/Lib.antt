@@ -15,3 +15,5 @@ pub mod Sorted
 pub mod Selections
 pub mod Grid
 pub mod Runs
+pub mod Disjunctions
+pub mod Intervals
