@@ -6,3 +6,4 @@ pub mod Marking
 pub mod Edges
 pub mod Parents
 pub mod BitRows
+pub mod Backward
