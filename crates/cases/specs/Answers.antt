@@ -5,6 +5,9 @@ use Prim.Native.Nat.{ℕ, zero, suc}
 use Rattle.lists.specs.Sets.{closure, round, rounds}
 use Rattle.lists.specs.Told.{Told}
 use Rattle.classes.specs.Classes.{Class, ranges, comparisons, cost}
+use Rattle.pattern.specs.Utf8.{lines, divided, codePoints}
+use Rattle.pattern.specs.Tree.{recordOf, treeOf, chainFrom, chainAt, treeAt, root, rules, ruleOf, fieldsFit, recordFits, named, treeFits}
+use Rattle.pattern.specs.Priority.{priority, valueAt, tooHigh, priorityOf, priorityTold}
 use Rattle.rules.specs.Table.{tableOf, refusal, conditions, matchFits, size, rowOf, step, leafAt, matchOf}
 use Rattle.rules.specs.Graph.{stateOf, to, acceptOf, earlyOf, leads, same, stateWords, graphWords, stateFrom, graphFrom, graphFits}
 use Rattle.rules.specs.Build.{errorWords, build, emptyLeaves, unpruned, merged, mergesNone, mergeRound, pruned, kept, withCleared, cleared, covered, withEarly, children, wholeGraph, firstState, ties, leafOf, contenders, chain, restrict, relabel, renamed, reached}
@@ -13,7 +16,7 @@ use Rattle.graph.specs.Answers.{readTold, tableRead, graphRead}
 use Rattle.plans.specs.declared.scan.Scan.{Scan}
 use Rattle.plans.specs.Scan.{fresh, gapLength, next, scanTold}
 use Rattle.display.specs.Text.{bytes, decimal}
-use Rattle.display.specs.Display.{letterOf, escaped, rangeText, classText, classTo, leadsTo, targets, firstLine, edgeLine, stateText, displayed, lineOf, conflictLine}
+use Rattle.display.specs.Display.{letterOf, escaped, rangeText, classText, classTo, leadsTo, targets, firstLine, edgeLine, edgeLines, stateText, displayed, lineOf, conflictLine}
 
 abbrev pub numbers : Told → List ℕ
 numbers t = t .refusal ∷ t .values
@@ -23,6 +26,12 @@ numbers t = t .refusal ∷ t .values
 unfoldable pub costOf : Class → List ℕ
 unfolding cost comparisons ranges
 costOf c = cost c ∷ []
+
+-- ---- patterns
+
+unfoldable pub priorityNumbers : List ℕ → List ℕ → List ℕ
+unfolding lines divided codePoints recordOf treeOf chainFrom chainAt treeAt root rules ruleOf fieldsFit recordFits named treeFits priority valueAt tooHigh priorityOf
+priorityNumbers tree bytes = numbers (priorityTold (priorityOf tree bytes))
 
 -- ---- a table's build
 
@@ -40,7 +49,7 @@ errorsOf w = flatMap errorWords (build (tableOf w) .errors)
 
 -- what the graph printer prints: the graph's text and a line end, then a line for each error
 unfoldable pub printed : List ℕ → List ℕ
-unfolding graphOf costOf decimal letterOf escaped rangeText classText classTo leadsTo targets firstLine edgeLine stateText displayed lineOf conflictLine
+unfolding graphOf costOf decimal letterOf escaped rangeText classText classTo leadsTo targets firstLine edgeLine edgeLines stateText displayed lineOf conflictLine
 printed w = let b = build (tableOf w) in displayed (b .graph) ++ (bytes "\n" ++ flatMap (λ e. conflictLine e ++ bytes "\n") (b .errors))
 
 -- ---- readings and scans: by the table's words, and by the words of its graph

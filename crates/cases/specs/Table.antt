@@ -5,7 +5,7 @@ use Prim.Native.Nat.{ℕ, _+_, _-_, _*_}
 use lib.ListN.{replicate, take}
 use Rattle.classes.specs.Classes.{Class}
 use Rattle.display.specs.Text.{bytes}
-use Rattle.cases.specs.Answers.{costOf, refusalOf, graphOf, errorsOf, printed, readBoth, scanned}
+use Rattle.cases.specs.Answers.{costOf, priorityNumbers, refusalOf, graphOf, errorsOf, printed, readBoth, scanned}
 
 pub record Case : Type 0 where
   pub got : List ℕ
@@ -41,6 +41,12 @@ span before size = replicate before false ++ replicate size true
 abbrev pub rest : List Bool → Class
 rest flags = take 256 (flags ++ replicate 256 false)
 
+-- ---- patterns
+
+-- a record's words: kind, a, b, flags, first child, next
+abbrev pub words : ℕ → ℕ → ℕ → ℕ → ℕ → ℕ → List ℕ
+words kind a b flags child next = kind ∷ a ∷ b ∷ flags ∷ child ∷ next ∷ []
+
 -- ---- the table
 
 unfoldable pub table : List Case
@@ -62,4 +68,9 @@ table =
     ∷ case (costOf (rest (span 0 256))) (0 ∷ [])
     ∷ case (costOf (rest (span 7 1))) (1 ∷ [])
     ∷ case (costOf (rest (span 0 128 ++ span 1 127))) (1 ∷ [])
+    -- K9: literal C2 B0: 2. K10: E2 82: 4. K11: class, min 3: 6. K12: min 0: 0
+    ∷ case (priorityNumbers (words 1 0 2 0 0 0) (0xC2 ∷ 0xB0 ∷ [])) (0 ∷ 2 ∷ [])
+    ∷ case (priorityNumbers (words 1 0 2 0 0 0) (0xE2 ∷ 0x82 ∷ [])) (0 ∷ 4 ∷ [])
+    ∷ case (priorityNumbers (words 2 0 0 0 0 0 ++ words 4 3 0 0 1 0) []) (0 ∷ 6 ∷ [])
+    ∷ case (priorityNumbers (words 2 0 0 0 0 0 ++ words 4 0 0 0 1 0) []) (0 ∷ 0 ∷ [])
     ∷ []
