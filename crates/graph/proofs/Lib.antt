@@ -7,3 +7,4 @@ pub mod AllReached
 pub mod NoEqualStates
 pub mod Unpacking
 pub mod Stages
+pub mod Written

@@ -14,7 +14,7 @@ use Rattle.rules.specs.Build.{Built, build}
 use Rattle.graph.specs.declared.new.Counts.{Counts}
 use Rattle.graph.specs.declared.new.Answer.{Answer}
 use Rattle.graph.specs.declared.new.Answer.the-variants.{Built as Made, Refused}
-use Rattle.graph.specs.New.{Outcome, refusedBy, conflicts, countsOf, wrote, writtenOr, newOf}
+use Rattle.graph.specs.New.{Outcome, refusedBy, conflicts, countsOf, wrote, wroteOr9, writtenOr, newOf}
 
 -- what a call that was not refused has done
 pub record Answered (table graph errors : List ℕ) (c : Counts) : Type 0 where
@@ -36,7 +36,7 @@ module _ (table graph errors : List ℕ) (c : Counts) (made : newOf table graph 
   n = getD table 0 0
 
   written : writtenOr n b graph errors .answer ≡ Made c → writtenOr n b graph errors ≡ wrote n b graph errors
-  unfolding writtenOr
+  unfolding writtenOr wroteOr9
   written e = go (is (ltb (length graph) (2 + 258 * n))) (is (ltb (length errors) (length (conflicts b))))
     where
       go : Is (ltb (length graph) (2 + 258 * n)) → Is (ltb (length errors) (length (conflicts b))) → writtenOr n b graph errors ≡ wrote n b graph errors

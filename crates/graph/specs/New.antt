@@ -44,12 +44,13 @@ wrote n b graph errors =
       errors = conflicts b ++ drop (length (conflicts b)) errors;
     }
 
--- 8: "graph buffer below 2 + 258n"; 9: "error buffer below the words needed"
+-- 9: "error buffer below the words needed"
+unfoldable pub wroteOr9 : ℕ → Built → List ℕ → List ℕ → Outcome
+wroteOr9 n b graph errors = cond (ltb (length errors) (length (conflicts b))) (refusedBy 9 graph errors) (wrote n b graph errors)
+
+-- 8: "graph buffer below 2 + 258n"
 unfoldable pub writtenOr : ℕ → Built → List ℕ → List ℕ → Outcome
-writtenOr n b graph errors =
-    cond (ltb (length graph) (2 + 258 * n)) (refusedBy 8 graph errors)
-    (cond (ltb (length errors) (length (conflicts b))) (refusedBy 9 graph errors)
-    (wrote n b graph errors))
+writtenOr n b graph errors = cond (ltb (length graph) (2 + 258 * n)) (refusedBy 8 graph errors) (wroteOr9 n b graph errors)
 
 -- `new`: table words, graph buffer, error buffer
 unfoldable pub newOf : List ℕ → List ℕ → List ℕ → Outcome
