@@ -198,6 +198,39 @@ module _ (t : Table) (sh : Shaped t) (m : ℕ) (leaf : (s l : ℕ) → leafOf t 
       merged-keep Good (λ g p. (round-fits g m (p .0), round-closed g, (let a = round-few g in let b = p .2 in omega arith), round-root g (p .3)))
       (pruned (unpruned t s₀)) pruned-good
 
+-- ---- rules 7 and 8, of any graph that has a root
+
+module _ (m n : ℕ) (g : Graph) (f : Fits m n g) (h : g .root < length (g .states)) where
+  pub pruned-few : length (pruned g .states) ≤ length (g .states)
+  unfolding pruned
+  pruned-few = restrict-few g (kept g) (kept-length g)
+
+  pub pruned-fits : Fits m n (pruned g)
+  unfolding pruned
+  pruned-fits =
+      record {
+        states = restrict-fits g (kept g) (kept-length g) m (f .states);
+        closed = restrict-closed g (kept g) (kept-length g);
+        few = (let a = pruned-few in let b = f .few in omega arith);
+        root = inl (pruned-root g h);
+      }
+
+  abbrev Less : Graph → Type 0
+  Less x = AllFit m x × Closed x × (length (x .states) ≤ length (g .states)) × (x .root < length (x .states))
+
+  merged-less : Less (merged g .graph)
+  merged-less =
+      merged-keep Less (λ x p. (round-fits x m (p .0), round-closed x, (let a = round-few x in let b = p .2 in omega arith), round-root x (p .3))) g
+      (f .states, f .closed, omega arith, h)
+
+  pub merged-few : length (merged g .graph .states) ≤ length (g .states)
+  merged-few = merged-less .2
+
+  pub merged-fits : Fits m n (merged g .graph)
+  merged-fits =
+      let p = merged-less in
+      record { states = p .0; closed = p .1; few = (let a = p .2 in let b = f .few in omega arith); root = inl (p .3) }
+
 empty-fits : (m n : ℕ) → Fits m n (record { states = []; root = 0 })
 unfolding to stateOf
 empty-fits m n =
