@@ -15,3 +15,4 @@ pub mod Sorted
 pub mod Selections
 pub mod Grid
 pub mod Runs
+pub mod Members

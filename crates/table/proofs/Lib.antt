@@ -7,3 +7,5 @@ pub mod Records
 pub mod Contenders
 pub mod Ascents
 pub mod Conflicts
+pub mod NewRows
+pub mod FirstRows

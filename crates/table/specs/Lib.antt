@@ -1,2 +1,3 @@
 pub mod Conditions
 pub mod Chains
+pub mod Renumbering
