@@ -9,3 +9,4 @@ pub mod Ascents
 pub mod Conflicts
 pub mod NewRows
 pub mod FirstRows
+pub mod FirstFits

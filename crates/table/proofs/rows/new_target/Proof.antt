@@ -1,12 +1,13 @@
 -- One way for state 0, one for the others. Assumes nothing.
 use mathlib.Core.Path.{sym}
+use native.Mathlib.Omega.{arith}
 use Rattle.table.proofs.NewRows.{target-zero, target-other}
 use borrow.Author.Needs.{needs}
 use Rattle.table.proofs.rows.new_target.Statement.{statement}
 use Rattle.table.proofs.rows.new_target.Tie as tie
 
 returns : tie.Need-returns
-returns c = sym (target-zero (c .before .args .numbers .now) (c .before .args .u) (c .if1 .taken))
+returns c = sym (target-zero (c .before .args .numbers .now) (c .before .args .u) (omega arith))
 
 mul-result : tie.Need-mul-result
 mul-result c = search needs

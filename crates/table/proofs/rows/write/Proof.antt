@@ -146,8 +146,8 @@ returns c =
     let root = getD new (a .args .start) 0 in
     let head-is : head ≡ count (take n (reach at)) = ap (λ (x : ℕ). getD new x 0) (numbered at .before .states .ensures .0) ∙ new-is at n (omega arith) in
     let written = written-same (sets (a .args .graph .now) 0 (head ∷ (root ∷ []))) (l .graph) (l .k) n (sym (at .before .before .before .set-head .ensures)) refl refl all (l .inv .1) in
-    let from = c .before .before .before .before .place .ensures in
-    let to = c .before .before .before .place2 .ensures ∙ ap (λ (x : ℕ). graphPlace x 0) (numbered at .before .states .ensures .0) in (
+    let from : c .before .before .before .before .place .result ≡ graphPlace (l .k) 0 = omega arith in
+    let to : c .before .before .before .place2 .result ≡ graphPlace n 0 = omega arith in (
       written .number ∙ sym (states-are (words at) (a .pre .0) (a .args .start) (a .pre .1 .0) (reach at) (a .pre .1 .1 .0)),
       c .before .before .zero .ensures
           ∙ (λ i. sets (l .graph) (from i) (replicate (to i - from i) 0))

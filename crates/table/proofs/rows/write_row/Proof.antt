@@ -52,7 +52,7 @@ module _ (c : tie.After-row-word Inv-loop μ-loop) where
       let at = c .before .before in
       let z = sized at in
       let e = target-is in
-      let b = legal-means (words at) (begin at .pre .0) .targets (begin at .args .s) (at .loop .c) (begin at .pre .1 .0) (c .before .loop-test .taken) in
+      let b = legal-means (words at) (begin at .pre .0) .targets (begin at .args .s) (at .loop .c) (begin at .pre .1 .0) (omega arith) in
       omega arith
 
   -- and the word that it writes
@@ -60,7 +60,7 @@ module _ (c : tie.After-row-word Inv-loop μ-loop) where
   word-is =
       let at = c .before .before in
       ap (newTarget (begin at .args .numbers .now)) target-is
-      ∙ sym (row-target (words at) (sized at) (begin at .args .numbers .now) (begin at .args .s) (begin at .pre .1 .0) (at .loop .c) (c .before .loop-test .taken))
+      ∙ sym (row-target (words at) (sized at) (begin at .args .numbers .now) (begin at .args .s) (begin at .pre .1 .0) (at .loop .c) (omega arith))
 
 leaves-requires : tie.Need-leaves-requires Inv-loop μ-loop
 leaves-requires c κs =
