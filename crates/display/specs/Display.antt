@@ -50,9 +50,13 @@ bytesOf st = take 256 (st .steps)
 unfoldable pub classTo : State → ℕ → Class
 classTo st u = map (eqOption (some u)) (bytesOf st)
 
+-- a byte edge leads to u
+unfoldable pub leadsTo : State → ℕ → Bool
+leadsTo st u = anyL (eqOption (some u)) (bytesOf st)
+
 -- the targets of its edges, ascending, in a graph of n states
 unfoldable pub targets : ℕ → State → List ℕ
-targets n st = those (λ u. anyL (eqOption (some u)) (bytesOf st)) (below n)
+targets n st = those (leadsTo st) (below n)
 
 -- ---- a state: its marks, each class and target, EOI; one line each
 
@@ -70,6 +74,10 @@ firstLine s accept early =
 unfoldable pub edgeLine : Class → ℕ → List ℕ
 edgeLine c u = bytes "    " ++ (classText c ++ (bytes " => " ++ nameOf u))
 
+-- one for each target
+unfoldable pub edgeLines : ℕ → State → List (List ℕ)
+edgeLines n st = map (λ u. edgeLine (classTo st u) u) (targets n st)
+
 abbrev pub endLines : Option ℕ → List (List ℕ)
 endLines none = []
 endLines (some u) = (bytes "    EOI => " ++ nameOf u) ∷ []
@@ -78,8 +86,7 @@ endLines (some u) = (bytes "    EOI => " ++ nameOf u) ∷ []
 unfoldable pub stateText : ℕ → ℕ → State → List ℕ
 stateText n s st =
     joined (bytes "\n")
-    (firstLine s (st .accept) (st .early)
-    ∷ (map (λ u. edgeLine (classTo st u) u) (targets n st) ++ (endLines (getD (st .steps) 256 none) ++ (bytes "  }" ∷ []))))
+    (firstLine s (st .accept) (st .early) ∷ (edgeLines n st ++ (endLines (getD (st .steps) 256 none) ++ (bytes "  }" ∷ []))))
 
 -- ---- a graph: its states, ascending
 

@@ -16,3 +16,5 @@ pub mod Selections
 pub mod Grid
 pub mod Runs
 pub mod Members
+pub mod Disjunctions
+pub mod Intervals

@@ -10,3 +10,6 @@ pub mod Conflicts
 pub mod NewRows
 pub mod FirstRows
 pub mod FirstFits
+pub mod Slotted
+pub mod Orders
+pub mod Listing
