@@ -8,3 +8,5 @@ pub mod NoEqualStates
 pub mod Unpacking
 pub mod Stages
 pub mod Written
+pub mod Composed
+pub mod Building

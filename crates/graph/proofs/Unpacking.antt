@@ -1,14 +1,15 @@
 -- The words of an image, by their places, and written one after another. Assumes nothing.
 use mathlib.Core.Path.{_≡_, refl, sym, ap, subst, _∙_}
 use mathlib.Core.List.{List, [], _∷_, _++_}
-use Prim.Native.Nat.{ℕ, zero, suc, _+_, _*_, _/_, _≤_, _<_}
+use Prim.Native.Nat.{ℕ, zero, suc, _+_, _*_, _/_, _%_, _≤_, _<_}
 use native.Mathlib.Nat.{not-suc-le-zero, le-of-suc-le-suc}
 use native.Mathlib.Numerals.{add-one}
 use native.Mathlib.Omega.{arith}
-use lib.ListN.{length, getD, take, drop, set}
-use lib.Seq.{take-suc, take-all, length-take-le}
+use borrow.Author.Tests.{eq-eqb, ne-eqb, lt-ltb, le-ltb}
+use lib.ListN.{length, getD, take, drop, set, replicate, length-append}
+use lib.Seq.{take-suc, take-all, take-at, length-take-le}
 use Rattle.lists.proofs.Buffers.{Filled, filled-none, filled-one}
-use Rattle.graph.specs.New.{wordsOf}
+use Rattle.graph.specs.New.{refusedBy, newOf, wordsOf, imageOf}
 
 pub words-length : (image : List ℕ) → length (wordsOf image) ≡ length image / 2
 words-length [] = refl
@@ -52,3 +53,25 @@ module _ (image found : List ℕ) (room : length image / 2 ≤ length found) whe
       u .2 .holds
       ∙ ap (λ (t : List ℕ). t ++ drop (length t) found) all
       ∙ ap (λ (k : ℕ). wordsOf image ++ drop k found) n
+
+-- ---- the call
+
+module _ (image graph errors : List ℕ) where
+  pub image-odd : length image % 2 ≡ 1 → refusedBy 13 graph errors ≡ imageOf image graph errors
+  unfolding imageOf
+  image-odd e = rw (eq-eqb (length image % 2) 1 e)
+
+  pub image-long : (length image % 2 ≡ 1 → ⊥) → 65536 < length image → refusedBy 13 graph errors ≡ imageOf image graph errors
+  unfolding imageOf
+  image-long n h = rw (ne-eqb (length image % 2) 1 n) (rw (lt-ltb 65536 (length image) h))
+
+  pub image-taken : (length image % 2 ≡ 1 → ⊥) → length image ≤ 65536 → (space : List ℕ) → space ≡ wordsOf image ++ drop (length image / 2) (replicate 32768 0)
+      → newOf (take (length image / 2) space) graph errors ≡ imageOf image graph errors
+  unfolding imageOf
+  image-taken n h space e =
+      rw (ne-eqb (length image % 2) 1 n) (rw (le-ltb 65536 (length image) h)
+      (ap (λ (w : List ℕ). newOf w graph errors)
+      (ap (take (length image / 2)) e ∙ take-at (wordsOf image) (drop (length image / 2) (replicate 32768 0)) (length image / 2) (words-length image))))
+
+pub unpacked-long : (image space found : List ℕ) → space ≡ wordsOf image ++ found → length image / 2 ≤ length space
+unpacked-long image space found e = let l = words-length image in let n = length-append (wordsOf image) found in let s = ap length e in omega arith

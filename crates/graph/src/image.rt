@@ -3,7 +3,8 @@ ghost use mathlib.Core.Path.{_≡_};
 ghost use mathlib.Core.List.{_++_};
 ghost use Prim.Native.Nat.{_+_, _*_, _/_, _≤_, _<_};
 ghost use lib.ListN.{length, getD, drop};
-ghost use Rattle.graph.specs.New.{wordsOf};
+ghost use Rattle.graph.specs.New.{wordsOf, Outcome, imageOf};
+use crate::new::Answer;
 
 // Word i of an image.
 fn word(image: &[u8], i: usize) -> u16
@@ -26,4 +27,20 @@ fn unpack(image: &[u8], out: &mut [u16])
         out[i] = word(image, i);
         i += 1;
     }
+}
+
+// The build of a table from its image; or 13, and then 1 to 9, and both buffers as they were.
+pub fn from_image(image: &[u8], graph: &mut [u16], errors: &mut [u16]) -> Answer
+    ensures { λ r. ⌜ record { answer = r; graph = now (graph .exit); errors = now (errors .exit) } ≡ imageOf (now (image .entry)) (now (graph .entry)) (now (errors .entry)) ⌝ }
+{
+    if image.len() % 2 == 1 {
+        return Answer::Refused(13);
+    }
+    if 65536 < image.len() {
+        return Answer::Refused(13);
+    }
+    let mut space = [0u16; 32768];
+    unpack(image, &mut space);
+    let n = image.len() / 2;
+    crate::new::new(&space[..n], graph, errors)
 }

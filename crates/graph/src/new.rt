@@ -1,12 +1,14 @@
 // The build (document 01, "The build, as `Graph::new` does it after the DFA is built"): from a table's words to the graph's words and the
 // conflicts. All that can refuse is decided before a word is written.
 ghost use mathlib.Core.Path.{_≡_};
-ghost use mathlib.Core.List.{List, [], _∷_, _++_, map};
-ghost use Prim.Native.Nat.{ℕ, _+_, _*_, _≤_};
-ghost use lib.ListN.{length, getD, drop};
+ghost use mathlib.Core.Bool.{true, false};
+ghost use mathlib.Core.Option.{some};
+ghost use mathlib.Core.List.{[], _∷_, _++_, map};
+ghost use Prim.Native.Nat.{_+_, _-_, _*_, _≤_};
+ghost use lib.ListN.{length, getD, drop, replicate};
 ghost use Rattle.rules.specs.Table.{tableOf, refusal};
-ghost use Rattle.rules.specs.Graph.{graphBuffer};
-ghost use Rattle.rules.specs.Build.{noUniversalStart, emptyMatch, emptyLeaves, noStates};
+ghost use Rattle.rules.specs.Graph.{graphBuffer, graphFits, graphFrom};
+ghost use Rattle.rules.specs.Build.{noUniversalStart, emptyMatch, emptyLeaves, noStates, reached, unpruned, pruned, merged, buildFrom};
 ghost use Rattle.graph.specs.New.{Outcome, wroteOr9, newOf};
 
 // How many states the graph has, its root, how many errors there are, and how many words they take.
@@ -78,3 +80,84 @@ fn with_empty(
         words: words,
     })
 }
+
+// Rules 2 to 8: the graph of the states that are reached, written.
+fn write_graph(table: &[u16], start: usize, set: &[bool; 1024], graph: &mut [u16])
+    requires { ⌜ refusal (now table) ≡ 0 ⌝ }
+    requires { ⌜ tableOf (now table) .start ≡ some start ⌝ }
+    requires { ⌜ now set ≡ reached (tableOf (now table)) start ++ replicate (1024 - getD (now table) 0 0) false ⌝ }
+    requires { ⌜ 2 + 258 * getD (now table) 0 0 ≤ length (now graph) ⌝ }
+    ensures { λ _. ⌜ now (graph .exit) ≡ graphBuffer (getD (now (table .entry)) 0 0) (merged (pruned (unpruned (tableOf (now (table .entry))) start)) .graph) ++ drop (2 + 258 * getD (now (table .entry)) 0 0) (now (graph .entry)) ⌝ }
+{
+    table::rows::write(table, start, set, graph);
+    rewrite::early::early(graph);
+    rewrite::clear::clear(graph);
+    prune(graph);
+    merge(graph);
+}
+
+// Rules 2 to 8, from a start, where no leaf can match empty text.
+fn with_states(
+    table: &[u16],
+    start: usize,
+    n: usize,
+    graph: &mut [u16],
+    errors: &mut [u16],
+) -> Answer
+    requires { ⌜ refusal (now table) ≡ 0 ⌝ }
+    requires { ⌜ tableOf (now table) .start ≡ some start ⌝ }
+    requires { ⌜ n ≡ getD (now table) 0 0 ⌝ }
+    requires { ⌜ 2 + 258 * n ≤ length (now graph) ⌝ }
+    ensures { λ r. ⌜ record { answer = r; graph = now (graph .exit); errors = now (errors .exit) } ≡ wroteOr9 n (buildFrom (tableOf (now (table .entry))) (some start) []) (now (graph .entry)) (now (errors .entry)) ⌝ }
+{
+    let set = table::reach::reached(table, start);
+    let ties = table::ties::tie_words(table, &set);
+    if errors.len() < ties.words {
+        return Answer::Refused(9);
+    }
+    table::ties::write_ties(table, &set, errors);
+    write_graph(table, start, &set, graph);
+    let states = words::word(graph, 0);
+    let root = words::word(graph, 1);
+    Answer::Built(Counts {
+        states: states,
+        root: root,
+        errors: ties.errors,
+        words: ties.words,
+    })
+}
+
+// The build of a table: its graph and its errors, written into the lent words; or 1 to 9, and both buffers as they were.
+pub fn new(table: &[u16], graph: &mut [u16], errors: &mut [u16]) -> Answer
+    ensures { λ r. ⌜ record { answer = r; graph = now (graph .exit); errors = now (errors .exit) } ≡ newOf (now (table .entry)) (now (graph .entry)) (now (errors .entry)) ⌝ }
+{
+    let refusal = table::check::check(table);
+    if refusal != 0 {
+        return Answer::Refused(refusal as u8);
+    }
+    let n = words::table::states(table);
+    if graph.len() < words::graph::place(n, 0) {
+        return Answer::Refused(8);
+    }
+    let start = words::table::start(table);
+    if start == 65535 {
+        return without_start(n, graph, errors);
+    }
+    let count = table::check::count_empty(table);
+    if count != 0 {
+        return with_empty(table, count, n, graph, errors);
+    }
+    with_states(table, start, n, graph, errors)
+}
+
+fn prune(graph: &mut [u16])
+    requires { ⌜ graphFits (now graph) ≡ true ⌝ }
+    ensures { λ _. ⌜ now (graph .exit) ≡ graphBuffer (getD (now (graph .entry)) 0 0) (pruned (graphFrom (now (graph .entry)))) ++ drop (2 + 258 * getD (now (graph .entry)) 0 0) (now (graph .entry)) ⌝ }
+    ensures { λ _. ⌜ graphFits (now (graph .exit)) ≡ true ⌝ }
+{}
+
+fn merge(graph: &mut [u16])
+    requires { ⌜ graphFits (now graph) ≡ true ⌝ }
+    ensures { λ _. ⌜ now (graph .exit) ≡ graphBuffer (getD (now (graph .entry)) 0 0) (merged (graphFrom (now (graph .entry))) .graph) ++ drop (2 + 258 * getD (now (graph .entry)) 0 0) (now (graph .entry)) ⌝ }
+    ensures { λ _. ⌜ graphFits (now (graph .exit)) ≡ true ⌝ }
+{}
