@@ -5,12 +5,12 @@ use mathlib.Core.List.{List}
 use Prim.Native.Nat.{ℕ, _+_, _≤_, _<_}
 use native.Mathlib.Omega.{arith}
 use borrow.Author.Tests.{le-leb, lt-leb}
-use lib.ListN.{length, getD}
+use lib.ListN.{length}
 use Rattle.lists.proofs.Buffers.{sets-front}
 use Rattle.rules.specs.Graph.{graphFrom, graphFits}
 use Rattle.display.specs.Text.{Wrote}
-use Rattle.display.specs.Display.{displayed}
-use Rattle.display.specs.Answers.{Call, refused, written, displayCall}
+use Rattle.display.specs.Display.{displayed, lineOf}
+use Rattle.display.specs.Answers.{Call, refused, written, displayCall, errorFits, lineCall}
 use Rattle.display.specs.declared.Shown.{Shown}
 use Rattle.display.specs.declared.Shown.the-variants.{Bytes, Refused}
 
@@ -45,3 +45,11 @@ module _ (w found : List ℕ) where
   pub display-taken : graphFits w ≡ true → displayCall w found ≡ written (displayed (graphFrom w)) found
   unfolding displayCall
   display-taken e = rw e
+
+  pub line-refused : errorFits w ≡ false → lineCall w found ≡ refused 9 found
+  unfolding lineCall
+  line-refused e = rw e
+
+  pub line-taken : errorFits w ≡ true → lineCall w found ≡ written (lineOf w) found
+  unfolding lineCall
+  line-taken e = rw e

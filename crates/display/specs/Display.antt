@@ -7,7 +7,7 @@ use Prim.Native.Nat.{ℕ, _+_, _/_, _%_}
 use Prim.Native.Char.{code}
 use Prim.Native.String.{String}
 use lib.Dec.{eqb, leb, ltb}
-use lib.ListN.{length, getD, take}
+use lib.ListN.{length, getD, take, drop}
 use Rattle.lists.specs.Lists.{below, anyL, those, eqOption}
 use Rattle.rules.specs.Graph.{State, Graph, stateOf}
 use Rattle.rules.specs.Build.{Error, errorWords}
@@ -96,9 +96,7 @@ displayed g = let n = length (g .states) in joined (bytes "\n") (map (λ s. stat
 -- ---- a conflict: "one line an error, as `error 2 0 1` (kind, then leaves)", from its words: kind, leaf count, leaves
 
 unfoldable pub lineOf : List ℕ → List ℕ
-lineOf [] = []
-lineOf (kind ∷ []) = []
-lineOf (kind ∷ (count ∷ leaves)) = joined (bytes " ") (bytes "error" ∷ map decimal (kind ∷ take count leaves))
+lineOf words = joined (bytes " ") (bytes "error" ∷ map decimal (getD words 0 0 ∷ take (getD words 1 0) (drop 2 words)))
 
 unfoldable pub conflictLine : Error → List ℕ
 conflictLine e = lineOf (errorWords e)

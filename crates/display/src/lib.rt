@@ -4,10 +4,11 @@
 // The texts are defined in specs/Display.antt, what the calls answer in specs/Answers.antt. No state's text is longer than STATE_ROOM (proofs/Sizes).
 
 ghost use mathlib.Core.Path.{_≡_};
-ghost use Rattle.display.specs.Answers.{displayCall};
+ghost use Rattle.display.specs.Answers.{displayCall, lineCall};
 
 pub mod byte_class;
 pub mod edges;
+pub mod errors;
 pub mod graph;
 pub mod put;
 pub mod state;
@@ -31,4 +32,20 @@ pub fn display(graph: &[u16], out: &mut [u8]) -> Shown
         return Shown::Refused(29);
     }
     Shown::Bytes(graph::states(out, 0, graph))
+}
+
+// The line of the error that the words begin with, from the front of the buffer. Refused: 9 if the words end before the error does; 29 if the
+// line does not fit.
+pub fn error_line(errors: &[u16], out: &mut [u8]) -> Shown
+    ensures answer { λ r. ⌜ r ≡ lineCall (now (errors .entry)) (now (out .entry)) .answer ⌝ }
+    ensures buffer { λ r. ⌜ now (out .exit) ≡ lineCall (now (errors .entry)) (now (out .entry)) .buffer ⌝ }
+{
+    if !errors::fits(errors) {
+        return Shown::Refused(9);
+    }
+    let length = errors::length(errors);
+    if out.len() < length {
+        return Shown::Refused(29);
+    }
+    Shown::Bytes(errors::line(out, 0, errors))
 }
