@@ -12,3 +12,4 @@ pub mod Sizes
 pub mod Members
 pub mod Calls
 pub mod Conflicts
+pub mod Rooms
