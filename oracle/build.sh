@@ -41,9 +41,16 @@ crate lib regex_syntax 2021 "-D warnings" oracle/standins/regex_syntax.rs
 for file in graph/mod.rs graph/dfa_util.rs pattern.rs leaf.rs generator/mod.rs generator/fork.rs generator/fast_loop.rs; do
     ln -sfn "$LOGOS_SRC/$file" "$OUT/codegen/$file"
 done
-for file in lib.rs parser.rs util.rs; do ln -sfn "$PWD/oracle/codegen/$file" "$OUT/codegen/$file"; done
+for file in lib.rs parser.rs util.rs views.rs; do ln -sfn "$PWD/oracle/codegen/$file" "$OUT/codegen/$file"; done
 ln -sfn "$PWD/oracle/codegen/export.rs" "$OUT/codegen/graph/export.rs"
 ln -sfn "$PWD/oracle/codegen/generator_leaf.rs" "$OUT/codegen/generator/leaf.rs"
 crate lib logos_codegen 2021 "-D warnings" "$OUT/codegen/lib.rs" regex_automata regex_syntax proc_macro2 quote syn fnv
 
 crate bin oracle 2021 "-D warnings" oracle/src/main.rs logos_codegen regex_automata regex_syntax proc_macro2
+
+# the C side of the case lines reads and writes them as the oracle does
+cc -std=c11 -O2 -Wall -Wextra -Werror -o "$OUT/echo" oracle/port/echo.c oracle/port/lines.c
+for name in classes priorities builds display readings plans; do
+    "$OUT/oracle" cases "$name" 1 200 >"$OUT/echo.cases"
+    "$OUT/echo" "$name" <"$OUT/echo.cases" | cmp - "$OUT/echo.cases"
+done

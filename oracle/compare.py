@@ -3,7 +3,7 @@
 
     compare.py NAME SEED COUNT [PROGRAM ARGUMENT..]
 
-The program is given NAME as its last argument, reads a case a line on standard input, and prints an answer a line; without one, paper.py
+The program is given NAME as its last argument, reads a case a line on standard input, and prints an answer a line; without one, oracle/paper
 answers. The first case that is answered differently is shown, and the exit status is 1.
 """
 import os
@@ -24,7 +24,7 @@ def main():
     if len(sys.argv) < 4:
         sys.exit(__doc__)
     name, seed, count = sys.argv[1], int(sys.argv[2]), int(sys.argv[3])
-    port = sys.argv[4:] or [sys.executable, os.path.join(HERE, "paper.py")]
+    port = sys.argv[4:] or [sys.executable, os.path.join(HERE, "paper")]
     done = 0
     while done < count:
         cases = lines([ORACLE, "cases", name, str(seed), str(min(BATCH, count - done))])

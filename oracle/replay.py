@@ -1,5 +1,5 @@
 #!/usr/bin/env python3
-"""Reads the stored lists as docs/ORACLE.md lays them out and holds every value against document 01's rules as paper.py reads them.
+"""Reads the stored lists as docs/ORACLE.md lays them out and holds every value against document 01's rules as oracle/paper reads them.
 
     replay.py [NAME ..]
 """
@@ -7,7 +7,16 @@ import os
 import sys
 
 sys.dont_write_bytecode = True
-import paper
+sys.path.insert(0, os.path.join(os.path.dirname(os.path.abspath(__file__)), "paper"))
+import builds as building
+import classes as classing
+import graphs
+import plans as planning
+import readings as reading
+import tables
+import texts
+import trees
+from forms import Refused, told
 
 LISTS = os.path.join(os.path.dirname(os.path.abspath(__file__)), "lists")
 
@@ -38,6 +47,15 @@ class Stored:
     def word(self):
         return self.number(4)
 
+    def words(self):
+        """Words in runs."""
+        length, words = self.word(), []
+        for _ in range(self.word()):
+            times, value = self.half(), self.half()
+            words += [value] * times
+        assert len(words) == length, "runs that do not come out even"
+        return words
+
     def same(self, found, expected, what):
         assert found == expected, f"{what}, before byte {self.at}: stored {expected}, by the rules {found}"
         self.checked += 1
@@ -47,26 +65,26 @@ class Stored:
 
 
 def one_class(stored):
-    held = paper.class_of(stored.bytes(32))
+    held = classing.class_of(stored.bytes(32))
     ranges = [(stored.byte(), stored.byte()) for _ in range(stored.byte())]
-    stored.same(paper.ranges(held), ranges, "ranges")
+    stored.same(classing.ranges(held), ranges, "ranges")
     comparisons = []
     for _ in range(stored.byte()):
         first, last, ops, exceptions = stored.byte(), stored.byte(), stored.byte(), stored.byte()
         comparisons.append((first, last, list(stored.bytes(exceptions))))
-        stored.same(paper.count_ops(comparisons[-1]), ops, "count_ops")
-    stored.same(paper.comparisons(held), comparisons, "comparisons")
-    stored.same(paper.cost(held), stored.half(), "cost")
+        stored.same(classing.count_ops(comparisons[-1]), ops, "count_ops")
+    stored.same(classing.comparisons(held), comparisons, "comparisons")
+    stored.same(classing.cost(held), stored.half(), "cost")
     return held
 
 
 def rendered(stored, store):
     luts = b"".join(stored.bytes(256) for _ in range(stored.byte()))
-    stored.same(paper.luts(store), luts.ljust(2048, b"\0"), "tables")
+    stored.same(classing.luts(store), luts.ljust(2048, b"\0"), "tables")
 
 
 def mask(store, added):
-    number = paper.store_add(store, added) if store is not None else None
+    number = classing.store_add(store, added) if store is not None else None
     return 255 if number is None else number
 
 
@@ -81,9 +99,9 @@ def classes(stored):
         rendered(stored, store)
     for _ in range(stored.half()):
         count, tables = stored.word(), stored.bytes(2048)
-        store = paper.store_of(tables, count)
+        store = classing.store_of(tables, count)
         for _ in range(stored.half()):
-            stored.same(mask(store, paper.class_of(stored.bytes(32))), stored.byte(), "mask number")
+            stored.same(mask(store, classing.class_of(stored.bytes(32))), stored.byte(), "mask number")
         stored.same(count if store is None else len(store), stored.word(), "held")
         refusal = stored.byte()
         stored.same(15 if store is None else 0, refusal, "refusal")
@@ -95,7 +113,7 @@ def classes(stored):
 
 
 def half_priority(text):
-    points = paper.code_points(text)
+    points = trees.code_points(text)
     return len(text) if points is None else points
 
 
@@ -104,14 +122,14 @@ def priorities(stored):
     for x in range(256):
         for y in range(256):
             code = pairs[(256 * x + y) // 4] >> 2 * (y % 4) & 3
-            points = paper.code_points(bytes((x, y)))
+            points = trees.code_points(bytes((x, y)))
             stored.same(2 if points is None else points - 1, code, "two bytes")
     threes = [(x, y, z) for x in range(0xE0, 0xF0) for y in range(256) for z in edges]
     fours = [(w, x, y, z) for w in range(0xF0, 0xF8) for x in range(256) for y in edges for z in edges]
     for strings in (threes, fours):
         bits = stored.bytes(len(strings) // 8)
         for i, string in enumerate(strings):
-            stored.same(paper.code_points(bytes(string)) == 1, bits[i // 8] >> i % 8 & 1 == 1, "one code point")
+            stored.same(trees.code_points(bytes(string)) == 1, bits[i // 8] >> i % 8 & 1 == 1, "one code point")
     for _ in range(stored.word()):
         text = stored.bytes(stored.byte())
         stored.same(half_priority(text), stored.byte(), "literal")
@@ -126,14 +144,131 @@ def tree(stored):
         words += [stored.word() if given >> j & 1 else 0 for j in range(min(6, length - len(words)))]
     text = stored.bytes(stored.half())
     refusal, value = stored.byte(), stored.word()
-    found = paper.told(lambda: paper.values(paper.tree_of(words, text), text)[length // 6])
+    found = told(lambda: trees.values(trees.tree_of(words, text), text)[length // 6])
     stored.same(found, f"refused-{refusal}" if refusal else str(value), "priority")
     refusal, value = stored.byte(), stored.byte()
-    found = paper.told(lambda: paper.greedy_all(paper.tree_of(words, text), length // 6))
+    found = told(lambda: trees.greedy_all(trees.tree_of(words, text), length // 6))
     stored.same(found, f"refused-{refusal}" if refusal else str(value), "greedy")
 
 
-REPLAYS = {"classes": classes, "priorities": priorities}
+# ---- builds and texts
+
+
+def builds(stored):
+    for _ in range(stored.word()):
+        words, odd, _ = stored.words(), stored.byte(), stored.byte()
+        graph_buffer, error_buffer, refusal, image = stored.word(), stored.word(), stored.byte(), stored.byte()
+        graph = None
+        try:
+            graph, found = building.build_within(words, graph_buffer, error_buffer), 0
+        except Refused as refused:
+            found = refused.args[0]
+        stored.same(found, refusal, "refusal")
+        stored.same(13 if odd or 2 * len(words) > 65536 else found, image, "refusal of the image")
+        if refusal == 0:
+            stored.same((len(graph.rows), graph.root, len(graph.errors)), (stored.half(), stored.half(), stored.half()), "answer")
+            stored.same(graph.error_words(), stored.words(), "error words")
+            stored.same(graph.words(), stored.words(), "graph words")
+
+
+def display(stored):
+    for _ in range(stored.word()):
+        found = texts.display_text(stored.words())
+        refusal = stored.byte()
+        expected = f"refused-{refusal}" if refusal else stored.bytes(stored.word()).decode("ascii")
+        stored.same(found, expected, "text")
+
+
+# ---- readings
+
+
+def stored_reading(stored):
+    leaf, end = stored.half(), stored.half()
+    return None if leaf == 65535 else (leaf, end)
+
+
+def stored_pieces(stored, offset):
+    pieces = []
+    for _ in range(stored.half()):
+        leaf, length = stored.byte(), stored.half()
+        pieces.append((None if leaf == 255 else leaf, offset, offset + length))
+        offset += length
+    return pieces
+
+
+def readings(stored):
+    for _ in range(stored.word()):
+        table, words = tables.Table(stored.words()), stored.words()
+        graph = building.build(table)
+        stored.same(graph.words(), words, "graph words")
+        stored.same(reading.clean(table, graph.errors), stored.byte() == 1, "clean")
+        for _ in range(stored.half()):
+            text = stored.bytes(stored.half())
+            stored.same(reading.read_table(table, text), stored_reading(stored), "reading of the table")
+            stored.same(reading.read_graph(graph, text), stored_reading(stored), "reading of the graph")
+            stored.same(reading.scan(graph, text, 0), stored_pieces(stored, 0), "scan")
+    for _ in range(stored.word()):
+        words = stored.words()
+        refusal = stored.byte()
+        stored.same(told(lambda: graphs.graph_of(words) is None), f"refused-{refusal}" if refusal else "0", "refusal")
+        if refusal == 0:
+            texts_of_graph(stored, graphs.graph_of(words))
+
+
+def texts_of_graph(stored, graph):
+    for _ in range(stored.half()):
+        text = stored.bytes(stored.half())
+        stored.same(reading.read_graph(graph, text), stored_reading(stored), "reading of the graph")
+        offset, refusal = stored.word(), stored.byte()
+        stored.same(14 if offset > len(text) else 0, refusal, "refusal of the scan")
+        if refusal == 0:
+            stored.same(reading.scan(graph, text, offset), stored_pieces(stored, offset), "scan")
+
+
+# ---- plans
+
+
+def plans(stored):
+    for _ in range(stored.word()):
+        words, fill = stored.words(), stored.byte()
+        held = [classing.class_of(stored.bytes(32)) for _ in range(stored.byte())]
+        count, buffer, refusal = stored.word(), stored.word(), stored.byte()
+        before = planning.tables_of(fill, held)
+        try:
+            (chosen, store), found = planning.planned(words, before, count, buffer), 0
+        except Refused as refused:
+            found = refused.args[0]
+        stored.same(found, refusal, "refusal")
+        if refusal == 0:
+            stored.same(chosen, stored.words(), "plan")
+            added = [classing.class_of(stored.bytes(32)) for _ in range(stored.byte())]
+            stored.same(store[count:], added, "classes added")
+            after = planning.tables_of(fill, store)
+            for _ in range(stored.half()):
+                one_run(stored, words, chosen, [(before, count), (after, len(store))])
+
+
+def one_run(stored, words, chosen, stores):
+    tables, count = stores[stored.byte()]
+    given, at, value = chosen[: stored.half()], stored.half(), stored.half()
+    if at != 65535:
+        given[at] = value
+    text = stored.bytes(stored.half())
+    try:
+        refusal, found = 0, planning.run(words, tables, count, given, text)
+    except Refused as refused:
+        refusal, found = refused.args[0], None
+    stored.same((refusal, found), (stored.byte(), stored_reading(stored)), "run")
+
+
+REPLAYS = {
+    "classes": classes,
+    "priorities": priorities,
+    "builds": builds,
+    "display": display,
+    "readings": readings,
+    "plans": plans,
+}
 
 
 def main():

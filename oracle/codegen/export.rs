@@ -3,6 +3,7 @@
 
 use super::{ByteClass, Comparisons, Graph, State, StateData, StateType};
 use crate::leaf::{Leaf, LeafId};
+use crate::views::Row;
 use regex_automata::dfa::dense::DFA;
 use std::collections::HashMap;
 
@@ -30,14 +31,6 @@ impl State {
     pub fn number(&self) -> usize {
         self.0
     }
-}
-
-/// A state as document 01 lays it out: 256 targets, the end target, accept and early.
-pub struct Row {
-    pub targets: [Option<usize>; 256],
-    pub end: Option<usize>,
-    pub accept: Option<usize>,
-    pub early: Option<usize>,
 }
 
 impl Graph {

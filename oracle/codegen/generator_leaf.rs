@@ -1,19 +1,27 @@
-//! Takes the place of `generator/leaf.rs`, which is not part of the reference: callbacks become nothing. As a child of `generator` it may
+//! Takes the place of `generator/leaf.rs`, which is not part of the reference: there are no callbacks. As a child of `generator` it may
 //! use that module's private items, so it opens the mask store and the generated states to the driver.
 
 use super::Generator;
 use crate::graph::{ByteClass, State};
 use crate::leaf::Leaf;
+use crate::views::{Choices, Fork};
 use proc_macro2::{Delimiter, TokenStream, TokenTree};
 use quote::quote;
 
 impl<'a> Generator<'a> {
     pub fn generate_callback(&self, _leaf: &Leaf) -> TokenStream {
-        quote!()
+        quote!(unreachable!())
     }
 
+    /// Where generated code stops, it answers with the leaf found, if any.
     pub fn take_action_macro(&self) -> TokenStream {
-        quote!()
+        quote! {
+            macro_rules! _take_action {
+                ($lex:ident, $offset:ident, $context:ident, $state:ident) => {
+                    return $lex.taken($context.map(|leaf: LogosLeaf| leaf as usize))
+                };
+            }
+        }
     }
 
     /// The mask number that `add_test_to_lut` answers with, by its table's name and its bit.
@@ -66,18 +74,6 @@ impl<'a> Generator<'a> {
         let forks = if table { None } else { Some(forks(&inner)) };
         Choices { self_mask, forks }
     }
-}
-
-/// A state's self mask, and its forks, each with its target; no forks means a 256-entry table.
-pub struct Choices {
-    pub self_mask: Option<usize>,
-    pub forks: Option<Vec<(usize, Fork)>>,
-}
-
-pub enum Fork {
-    Mask(usize),
-    /// The bytes for which the generated condition holds.
-    Comparisons(Box<[bool; 256]>),
 }
 
 /// The forks of `if CONDITION { .. state = LogosState::StateN; continue; }`, one after another.

@@ -1,10 +1,23 @@
 //! Words in runs: how tables, graphs and trees stand in the case lines, and tables and graphs in the stored lists.
 
-use crate::form::number;
+use crate::form::{number, Stored};
 use std::fmt::Display;
 
+impl Stored {
+    /// The number of words, the number of runs, and the runs: how often, which word.
+    pub fn runs(&mut self, words: &[u16]) {
+        let runs = runs(words);
+        self.word(words.len());
+        self.word(runs.len());
+        for (times, value) in runs {
+            self.half(times);
+            self.half(usize::from(value));
+        }
+    }
+}
+
 /// Equal neighbours as one, up to 65,535 of them.
-fn runs<W: Copy + PartialEq>(words: &[W]) -> Vec<(usize, W)> {
+pub fn runs<W: Copy + PartialEq>(words: &[W]) -> Vec<(usize, W)> {
     let mut found: Vec<(usize, W)> = Vec::new();
     for &word in words {
         match found.last_mut() {

@@ -5,17 +5,17 @@ use mathlib.Core.List.{[], _∷_, _++_}
 use Prim.Native.Nat.{ℕ, _+_, _*_, _≤_, _<_}
 use native.Mathlib.Numerals.{add-one}
 use native.Mathlib.Omega.{arith}
-use borrow.Author.Tests.{ltb-true, ltb-false, lt-ltb, le-ltb, le-leb, lt-leb, eq-eqb}
+use borrow.Author.Tests.{ltb-true, ltb-false, lt-ltb, le-ltb, le-leb, eq-eqb}
 use lib.Dec.{eqb, leb, ltb}
 use lib.ListN.{length, getD, drop, length-append}
 use lib.Seq.{drop-at}
 use Rattle.lists.specs.Told.{telling, refusing}
-use Rattle.lists.proofs.Bools.{and-both, and-intro, Is, yes-is, no-is, is}
+use Rattle.lists.proofs.Bools.{and-intro, Is, yes-is, no-is, is}
 use Rattle.classes.specs.Classes.{Class, has}
 use Rattle.classes.specs.declared.masks.MaskStore.{MaskStore}
 use Rattle.classes.specs.declared.masks.AddAnswer.the-variants.{Number, Refused}
 use Rattle.classes.specs.declared.masks.Added.{Added}
-use Rattle.classes.specs.Masks.{add, addTold, bit, classAt, held, heldWith, numberOf, among, written, writtenAll, grown, allowed, takes}
+use Rattle.classes.specs.Masks.{add, addTold, bit, classAt, held, heldWith, numberOf, among, written, writtenAll, grown, storeOf, allowed, takes, refusedWith}
 use Rattle.classes.proofs.Numbers.{number-at, number-most, number-back, number-here, same-self}
 use Rattle.classes.proofs.Search.{allowed-count}
 use Rattle.classes.proofs.MaskLaws.{length-held, held-at, length-written, class-own, class-other, bits-after, table-at}
@@ -55,7 +55,7 @@ module _ (s : MaskStore) (c : Class) where
           let k : length (held s) ≤ numberOf (held s) c = ltb-false _ _ n in
           rw (with-new n) (number-back (held s) (c ∷ []) c k ∙ omega (arith, number-here c c [] (same-self c), number-most (held s) c))
 
-  pub grown-new : among (held s) c ≡ false → grown s (c ∷ []) ≡ record { tables = written (s .tables) (s .count) c; count = s .count + 1 }
+  pub grown-new : among (held s) c ≡ false → grown s (c ∷ []) ≡ storeOf (written (s .tables) (s .count) c) (s .count + 1)
   unfolding grown
   grown-new n =
       let d : drop (s .count) (heldWith s (c ∷ [])) ≡ c ∷ [] = ap (drop (s .count)) (with-new n) ∙ drop-at (held s) (c ∷ []) (s .count) (length-held s) in
@@ -64,34 +64,6 @@ module _ (s : MaskStore) (c : Class) where
 
   pub grown-held : among (held s) c ≡ true → grown s (c ∷ []) ≡ s
   grown-held q = grown-none s (c ∷ []) (and-intro (among (held s) c) _ q refl)
-
-  -- a store that is not allowed
-  pub add-not : allowed s ≡ false → add s c ≡ record { answer = Refused 15; store = s }
-  unfolding add takes
-  add-not n = rw n
-
-  -- a class that is held, also by a full store
-  pub add-held : allowed s ≡ true → among (held s) c ≡ true → add s c ≡ record { answer = Number (numberOf (held s) c); store = s }
-  unfolding add takes allowed
-  add-held a q =
-      let few : leb (s .count) 64 ≡ true = and-both _ _ a .0 in
-      let t : leb (length (heldWith s (c ∷ []))) 64 ≡ true = ap (λ (n : ℕ). leb n 64) (ap length (with-held q) ∙ length-held s) ∙ few in
-      rw (a, t, grown-held q)
-
-  -- a new class, with room for it
-  pub add-new : allowed s ≡ true → among (held s) c ≡ false → s .count < 64
-      → add s c ≡ record { answer = Number (s .count); store = record { tables = written (s .tables) (s .count) c; count = s .count + 1 } }
-  unfolding add takes
-  add-new a n h =
-      let t : leb (length (heldWith s (c ∷ []))) 64 ≡ true = le-leb (length (heldWith s (c ∷ []))) 64 (omega (arith, length-new n)) in
-      rw (a, t, grown-new n, next-number n)
-
-  -- and without
-  pub add-full : allowed s ≡ true → among (held s) c ≡ false → 64 ≤ s .count → add s c ≡ record { answer = Refused 15; store = s }
-  unfolding add takes
-  add-full a n h =
-      let t : leb (length (heldWith s (c ∷ []))) 64 ≡ false = lt-leb (length (heldWith s (c ∷ []))) 64 (omega (arith, length-new n)) in
-      rw (a, t)
 
   -- "with the classes needed that it lacks would pass 64", for one class
   pub takes-one : takes s (c ∷ []) ≡ (allowed s && (among (held s) c || ltb (s .count) 64))
@@ -104,6 +76,27 @@ module _ (s : MaskStore) (c : Class) where
           let few : s .count ≤ 64 = allowed-count s a in
           rw (a, q) (le-leb (length (heldWith s (c ∷ []))) 64 (omega (arith, ap length (with-held q), length-held s)))
       go (yes-is a) (no-is n) = rw (a, n, length-new n, add-one (s .count))
+
+  -- a store that is not allowed
+  pub add-not : allowed s ≡ false → add s c ≡ refusedWith s
+  unfolding add
+  add-not n = rw (takes-one, n)
+
+  -- a class that is held, also by a full store
+  pub add-held : allowed s ≡ true → among (held s) c ≡ true → add s c ≡ record { answer = Number (numberOf (held s) c); store = s }
+  unfolding add
+  add-held a q = rw (takes-one, a, q, grown-held q)
+
+  -- a new class, with room for it
+  pub add-new : allowed s ≡ true → among (held s) c ≡ false → s .count < 64
+      → add s c ≡ record { answer = Number (s .count); store = storeOf (written (s .tables) (s .count) c) (s .count + 1) }
+  unfolding add
+  add-new a n h = rw (takes-one, a, n, lt-ltb (s .count) 64 h, grown-new n, next-number n)
+
+  -- and without
+  pub add-full : allowed s ≡ true → among (held s) c ≡ false → 64 ≤ s .count → add s c ≡ refusedWith s
+  unfolding add
+  add-full a n h = rw (takes-one, a, n, le-ltb (s .count) 64 h)
 
   -- the answer in document 01's numbers
   pub add-told : addTold (add s c .answer) ≡ cond (takes s (c ∷ [])) (telling (numberOf (held s) c ∷ [])) (refusing 15 1)
@@ -134,9 +127,9 @@ module _ (s : MaskStore) (c : Class) where
 -- ---- the store after the call
 
 module _ (s : MaskStore) (c : Class) (size : length (s .tables) ≡ 2048) (wide : length c ≡ 256) where
-  -- the class is new, and it is taken
+  -- the class is taken, and it is new
   abbrev pub grows : Bool
-  grows = allowed s && (not (among (held s) c) && ltb (s .count) 64)
+  grows = takes s (c ∷ []) && not (among (held s) c)
 
   pub add-size : length (add s c .store .tables) ≡ 2048
   add-size = go (which s c)
@@ -159,17 +152,17 @@ module _ (s : MaskStore) (c : Class) (size : length (s .tables) ≡ 2048) (wide 
           (grown-allowed s (c ∷ []) size (and-intro (whole c) _ (eq-eqb (length c) 256 wide) refl) (omega (arith, length-new s c n)) a)
       go (case-full a n h) = rw (add-full s c a n h) a
 
-  -- the count grows by one exactly if the class is new and is taken
+  -- the count grows by one exactly if the class is taken and is new
   pub add-count : add s c .store .count ≡ cond grows (s .count + 1) (s .count)
   add-count = go (which s c)
     where
       go : Case s c → add s c .store .count ≡ cond grows (s .count + 1) (s .count)
-      go (case-not n) = rw (add-not s c n, n)
-      go (case-held a q) = rw (add-held s c a q, a, q)
-      go (case-new a n h) = rw (add-new s c a n h, a, n, lt-ltb (s .count) 64 h)
-      go (case-full a n h) = rw (add-full s c a n h, a, n, le-ltb (s .count) 64 h)
+      go (case-not n) = rw (add-not s c n, takes-one s c, n)
+      go (case-held a q) = rw (add-held s c a q, takes-one s c, a, q)
+      go (case-new a n h) = rw (add-new s c a n h, takes-one s c, a, n, lt-ltb (s .count) 64 h)
+      go (case-full a n h) = rw (add-full s c a n h, takes-one s c, a, n, le-ltb (s .count) 64 h)
 
-  -- Every bit of the store after the call: bit k of byte b of table t belongs to mask 8 t + k. Only if the class is new and is taken, and only in
+  -- Every bit of the store after the call: bit k of byte b of table t belongs to mask 8 t + k. Only if the class is taken and is new, and only in
   -- the mask that it becomes, a bit is written, and it is then the class's flag. Every other bit is as it was, also those of masks that mean nothing.
   pub add-bits : (t b k : ℕ) → b < 256 → k < 8
       → bit (getD (add s c .store .tables) (256 * t + b) 0) k
@@ -178,12 +171,12 @@ module _ (s : MaskStore) (c : Class) (size : length (s .tables) ≡ 2048) (wide 
     where
       go : Case s c → bit (getD (add s c .store .tables) (256 * t + b) 0) k
           ≡ cond (grows && eqb (8 * t + k) (s .count)) (cond (has c b) 1 0) (bit (getD (s .tables) (256 * t + b) 0) k)
-      go (case-not n) = rw (add-not s c n, n)
-      go (case-held a q) = rw (add-held s c a q, a, q)
+      go (case-not n) = rw (add-not s c n, takes-one s c, n)
+      go (case-held a q) = rw (add-held s c a q, takes-one s c, a, q)
       go (case-new a n h) =
-          rw (add-new s c a n h, a, n, lt-ltb (s .count) 64 h, ← table-at (s .tables) t b hb, ← table-at (written (s .tables) (s .count) c) t b hb)
+          rw (add-new s c a n h, takes-one s c, a, n, lt-ltb (s .count) 64 h, ← table-at (s .tables) t b hb, ← table-at (written (s .tables) (s .count) c) t b hb)
           (bits-after (s .tables) (s .count) c size h wide t b k hb hk)
-      go (case-full a n h) = rw (add-full s c a n h, a, n, le-ltb (s .count) 64 h)
+      go (case-full a n h) = rw (add-full s c a n h, takes-one s c, a, n, le-ltb (s .count) 64 h)
 
   -- the class that was given has the number that is answered: an equal class kept it, a new one took the next
   pub added-own : (i : ℕ) → add s c .answer ≡ Number i → (i < add s c .store .count) × (classAt (add s c .store .tables) i ≡ c)

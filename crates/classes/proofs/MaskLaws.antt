@@ -17,7 +17,7 @@ use Rattle.classes.specs.Masks.{bit, isSet, tableAt, maskHas, classAt, h
 use Rattle.classes.proofs.Bits.{bit-zero, bit-flag, bit-own, bit-other, set-own, set-other}
 use Rattle.classes.proofs.Numbers.{met-front, number-at}
 
--- ---- mask i has byte b exactly if class i has it
+-- ---- byte membership equals the set bit, for every mask and every byte
 
 pub table-at : (tables : List ℕ) (t b : ℕ) → b < 256 → getD (tableAt tables t) b 0 ≡ getD tables (256 * t + b) 0
 unfolding tableAt

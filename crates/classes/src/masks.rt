@@ -195,7 +195,7 @@ pub fn add_by_loan(store: MaskStore, class: [bool; 256]) -> Added
 // ---- the tables
 
 // The n lowest bits of the word.
-pub fn low_bits(word: u8, n: usize) -> u8
+fn low_bits(word: u8, n: usize) -> u8
     requires { ⌜ n ≤ 8 ⌝ }
     ensures { λ r. ⌜ r ≡ word % 2 ^ n ⌝ }
 {
@@ -203,7 +203,7 @@ pub fn low_bits(word: u8, n: usize) -> u8
 }
 
 // How many masks of table t are held.
-pub fn used_in(count: usize, t: usize) -> usize
+fn used_in(count: usize, t: usize) -> usize
     requires { ⌜ t < 8 ⌝ }
     ensures { λ r. ⌜ r ≡ usedIn count t ⌝ }
 {

@@ -8,7 +8,7 @@ use lib.ListN.{length, getD, drop}
 use Rattle.classes.specs.Classes.{Class, Range, ranges}
 use Rattle.classes.specs.ClassAnswers.{asByteClass}
 use Rattle.classes.specs.declared.byte_class.ByteClass.{ByteClass}
-use Rattle.classes.proofs.FlagPass.{held-count, held-next}
+use Rattle.classes.proofs.Answers.{held-count, held-next}
 use Rattle.display.specs.Text.{bytes, after, joined}
 use Rattle.display.specs.Display.{rangeText, classText}
 use Rattle.display.proofs.Joins.{joined-none, after-none}

@@ -3,9 +3,11 @@ use mathlib.Core.Bool.{Bool, true, false}
 use mathlib.Core.List.{List, [], _∷_}
 use mathlib.Core.Option.{none, some}
 use Prim.Native.Nat.{ℕ}
+use lib.Dec.{eqb}
 use Rattle.lists.specs.Told.{Told, telling, refusing}
+use Rattle.rules.specs.Table.{tableOf, refusal}
 use Rattle.rules.specs.Graph.{graphFits, graphFrom}
-use Rattle.rules.specs.Read.{Reading, readGraph}
+use Rattle.rules.specs.Read.{Reading, readGraph, readTable}
 use Rattle.graph.specs.declared.read.Read.{Read}
 use Rattle.graph.specs.declared.read.Read.the-variants.{Found, Nothing, Refused}
 
@@ -29,3 +31,7 @@ readTold (Refused n) = refusing n 3
 -- `read_graph`: 12, or the reading
 unfoldable pub graphRead : List ℕ → List ℕ → Read
 graphRead graph text = elim (graphFits graph) [ true ↦ reading (readGraph (graphFrom graph) text) | false ↦ Refused 12 ]
+
+-- `read_table`: 1 to 7, or the reading
+unfoldable pub tableRead : List ℕ → List ℕ → Read
+tableRead table text = elim (eqb (refusal table) 0) [ true ↦ reading (readTable (tableOf table) text) | false ↦ Refused (refusal table) ]

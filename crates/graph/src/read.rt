@@ -22,7 +22,7 @@ pub struct Record {
 }
 
 // The record at a state of that accept, entered by k byte steps: the match is one byte late.
-fn accepted(accept: usize, k: usize, r: Record) -> Record
+pub fn accepted(accept: usize, k: usize, r: Record) -> Record
     ensures { λ q. ⌜ recorded (q .found) (q .leaf) (q .end) ≡ late (orNone 255 accept) k (recorded (r .found) (r .leaf) (r .end)) ⌝ }
 {
     if accept == 255 {
@@ -54,7 +54,7 @@ fn entered(marks: usize, k: usize, r: Record) -> Record
 }
 
 // The record at a state of that accept, entered by the end step after k byte steps: only accept is read there.
-fn left(accept: usize, k: usize, r: Record) -> Record
+pub fn left(accept: usize, k: usize, r: Record) -> Record
     ensures { λ q. ⌜ recorded (q .found) (q .leaf) (q .end) ≡ late (orNone 255 accept) (suc k) (recorded (r .found) (r .leaf) (r .end)) ⌝ }
 {
     if accept == 255 {
@@ -68,7 +68,7 @@ fn left(accept: usize, k: usize, r: Record) -> Record
 }
 
 // Byte k.
-fn byte(text: &[u8], k: usize) -> usize
+pub fn byte(text: &[u8], k: usize) -> usize
     requires { ⌜ k < length (now text) ⌝ }
     ensures { λ r. ⌜ (r ≡ getD (now (text .entry)) k 0) × (r < 256) ⌝ }
 {

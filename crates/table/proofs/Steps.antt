@@ -2,7 +2,7 @@
 use mathlib.Core.Path.{_≡_, refl, sym, ap, subst, _∙_}
 use mathlib.Core.Bool.{Bool, true, false}
 use mathlib.Core.List.{List, _++_}
-use Prim.Native.Nat.{ℕ, _-_, _≤_, _<_}
+use Prim.Native.Nat.{ℕ, _-_, _<_}
 use native.Mathlib.Omega.{arith}
 use borrow.Author.Tests.{eq-eqb, eqb-true}
 use lib.Dec.{eqb}
@@ -10,13 +10,13 @@ use lib.ListN.{length, getD, replicate}
 use Rattle.lists.specs.Sets.{In, Reach, closure, from-seed, by-edge}
 use Rattle.lists.proofs.Any.{any-at, any-found}
 use Rattle.lists.proofs.Closure.{closure-is, closure-length, reach-below}
-use Rattle.lists.proofs.Padded.{padded}
+use Rattle.lists.proofs.Padding.{padded}
 use Rattle.lists.proofs.Worklist.{AllIn}
 use Rattle.rules.specs.Table.{tableOf, rowOf, size, step, refusal}
 use Rattle.rules.specs.Build.{stepsTo, reached}
 use Rattle.rules.proofs.Flat.{step-word}
 use Rattle.rules.proofs.Shape.{size-is}
-use Rattle.table.specs.Conditions.{states, targetWord, Sized, Legal}
+use Rattle.table.specs.Conditions.{states, targetWord}
 use Rattle.table.proofs.Counts.{row-width}
 use Rattle.table.proofs.Legal.{legal-means}
 
@@ -61,9 +61,10 @@ module _ (w : List ℕ) (legal : refusal w ≡ 0) where
     reached-is out len has closed only =
         let n = legal-means w legal .sized .few-states in
         let l = reached-length in
-        padded (reached (tableOf w) start) (1024 - states w) out (omega arith)
+        padded false out (reached (tableOf w) start) 1024 len (omega arith)
         (λ i. closure-is (stepsTo (tableOf w)) (states w) (eqb start) out
         (λ u h e. subst (In out) (eqb-true start u e) has)
         (λ s u i h e. let (c, b, q) = edge-step s u (found-below s (only s i)) e in subst (In out) q (closed s i c b))
         only i
         ∙ ap (λ (k : ℕ). getD (closure (stepsTo (tableOf w)) k (eqb start)) i false) (sym (size-is w legal)))
+        ∙ ap (λ (k : ℕ). reached (tableOf w) start ++ replicate (1024 - k) false) l
