@@ -9,7 +9,6 @@ use lib.ListN.{length, getD}
 use Rattle.rules.specs.Graph.{graphFrom, graphFits}
 use Rattle.display.specs.Display.{displayed, lineOf}
 use Rattle.display.specs.Answers.{Call, written, displayCall, errorFits, lineCall}
-use Rattle.display.specs.declared.Shown.{Shown}
 use Rattle.display.specs.declared.Shown.the-variants.{Bytes}
 use Rattle.display.proofs.Calls.{display-taken, line-taken}
 use Rattle.display.proofs.Conflicts.{line-size}

@@ -1,11 +1,10 @@
 -- The text of a graph, as Rust's `Display` of `Graph`, `StateData`, `ByteClass` and `State` gives it, and the lines of the conflicts (document 01, K1 and
 -- the paragraph after it). Definitions only.
-use mathlib.Core.Bool.{Bool, true, false, cond, _&&_, _||_}
+use mathlib.Core.Bool.{Bool, cond, _&&_, _||_}
 use mathlib.Core.List.{List, [], _∷_, _++_, map}
 use mathlib.Core.Option.{Option, none, some}
 use Prim.Native.Nat.{ℕ, _+_, _/_, _%_}
 use Prim.Native.Char.{code}
-use Prim.Native.String.{String}
 use lib.Dec.{eqb, leb, ltb}
 use lib.ListN.{length, getD, take, drop}
 use Rattle.lists.specs.Lists.{below, anyL, those, eqOption}
@@ -75,7 +74,7 @@ unfoldable pub edgeLine : Class → ℕ → List ℕ
 edgeLine c u = bytes "    " ++ (classText c ++ (bytes " => " ++ nameOf u))
 
 -- one for each target
-unfoldable pub edgeLines : ℕ → State → List (List ℕ)
+abbrev pub edgeLines : ℕ → State → List (List ℕ)
 edgeLines n st = map (λ u. edgeLine (classTo st u) u) (targets n st)
 
 abbrev pub endLines : Option ℕ → List (List ℕ)
