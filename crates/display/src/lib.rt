@@ -1,7 +1,11 @@
 // The text of a graph, as Rust's Display gives it, and the lines of its conflicts (document 01, K1 and the paragraph after it). Words of a graph
 // or of an error come in, and bytes of text go into a lent buffer, whole or not at all.
 //
-// The texts are defined in specs/Display.antt, what the calls answer in specs/Answers.antt. No state's text is longer than STATE_ROOM (proofs/Sizes).
+// Each inner function writes its part from a place on and hands out the place after it. What passes the buffer's end is counted and not written, so
+// the same function over no bytes measures the text; a call measures first. A state costs a pass over its row for each target that it has.
+//
+// The texts are defined in specs/Display.antt on those of specs/Text.antt, what the calls answer in specs/Answers.antt. How long a text is at most
+// is in proofs/Sizes.antt and proofs/Conflicts.antt; that a buffer of that size is never refused, in proofs/Rooms.antt.
 
 ghost use mathlib.Core.Path.{_≡_};
 ghost use mathlib.Core.Bool.{true};
