@@ -7,16 +7,24 @@ use native.Mathlib.Numerals.{add-one}
 use native.Mathlib.Omega.{arith}
 use lib.Pow.{pow-pos, pow-mono, high, low, shr-shr, shl-exact, field, mod-mod-pow}
 use lib.Bits.{bitOr, bitAnd}
-use borrow.Author.Tests.{eqb-true, ltb-true}
+use borrow.Author.Tests.{eqb-true, eqb-false, ltb-true}
 use lib.Dec.{eqb, ltb, lit<}
 use lib.ListN.{getD}
 use Rattle.lists.specs.Lists.{tab, allL}
 use Rattle.lists.proofs.Elements.{length-tab, getD-tab, all-at}
-use Rattle.lists.proofs.Bools.{Order, less, more, order, equal}
+use Rattle.lists.proofs.Bools.{Is, yes-is, no-is, is, Order, less, more, order, equal}
 use Rattle.classes.specs.Masks.{bit, isSet, withBit}
 
 pub bit-zero : (k : ℕ) → bit 0 k ≡ 0
 bit-zero k = ap (λ (m : ℕ). m % 2) (div-eq-of-lt (pow-pos k))
+
+-- a bit is 1 exactly if it is set
+pub bit-flag : (w k : ℕ) → bit w k ≡ cond (isSet k w) 1 0
+bit-flag w k = go (is (isSet k w))
+  where
+    go : Is (isSet k w) → bit w k ≡ cond (isSet k w) 1 0
+    go (yes-is q) = rw q (eqb-true (bit w k) 1 q)
+    go (no-is q) = let n : bit w k ≡ 1 → ⊥ = eqb-false (bit w k) 1 q in rw q (omega (arith, n))
 
 -- a bit of a remainder by 2 ^ n: below n the number's, and 0 from n on
 pub bit-mod-below : (w n k : ℕ) → k < n → bit (w % 2 ^ n) k ≡ bit w k

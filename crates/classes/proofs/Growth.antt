@@ -1,24 +1,20 @@
 -- A store that has grown holds what it held and the classes met; the tables that are rendered, bit by bit. Assumes nothing.
 use mathlib.Core.Path.{_≡_, refl, sym, ap, _∙_}
-use mathlib.Core.Bool.{Bool, true, cond}
-use mathlib.Core.List.{List, [], _∷_, _++_, map, append-assoc}
-use Prim.Native.Nat.{ℕ, zero, suc, _+_, _-_, _*_, _%_, _^_, _≤_, _<_}
-use native.Mathlib.Nat.{not-suc-le-zero, le-of-suc-le-suc, zero-mod}
+use mathlib.Core.Bool.{Bool, true}
+use mathlib.Core.List.{List, [], _∷_, _++_, append-assoc}
+use Prim.Native.Nat.{ℕ, zero, suc, _+_, _-_, _≤_, _<_}
+use native.Mathlib.Nat.{not-suc-le-zero, le-of-suc-le-suc}
 use native.Mathlib.Omega.{arith}
-use borrow.Author.Tests.{ltb-true, ltb-false, eqb-true, le-leb, eq-eqb, leb-true}
+use borrow.Author.Tests.{ltb-true, ltb-false, eqb-true, le-leb}
 use lib.Dec.{eqb, leb, ltb}
-use lib.ListN.{length, getD, drop, length-append, List·getD-map, List·getD-append}
+use lib.ListN.{length, getD, drop, length-append, List·getD-append}
 use lib.Seq.{drop-at, getD-append-add, ext-getD}
 use Rattle.lists.specs.Lists.{allL}
-use Rattle.lists.proofs.Elements.{getD-tab}
 use Rattle.lists.proofs.Bools.{and-both, and-intro, Is, yes-is, no-is, is}
 use Rattle.classes.specs.Classes.{Class}
 use Rattle.classes.specs.declared.masks.MaskStore.{MaskStore}
-use Rattle.classes.specs.declared.masks.AddAnswer.the-variants.{Number}
-use Rattle.classes.specs.declared.masks.Added.{Added}
-use Rattle.classes.specs.Masks.{add, bit, tableAt, classAt, held, heldWith, numberOf, among, met, written, writtenAll, grown, allowed, takes, noneTwice, usedIn, luts}
-use Rattle.classes.proofs.Bits.{bit-mod-below, bit-mod-above}
-use Rattle.classes.proofs.Numbers.{Grows, met-append, met-split, met-grows, met-all, met-has, met-once, number-most, number-at, number-back, number-here, same-self}
+use Rattle.classes.specs.Masks.{classAt, held, heldWith, numberOf, among, met, written, writtenAll, grown, allowed, noneTwice}
+use Rattle.classes.proofs.Numbers.{Grows, met-append, met-split, met-grows, met-all, met-has, met-once, number-at}
 use Rattle.classes.proofs.MaskLaws.{length-held, held-at, length-written, class-own, class-other}
 
 -- the class has 256 flags
@@ -174,69 +170,3 @@ grown-none s cs a =
   where
     drop-held : drop (s .count) (held s) ≡ []
     drop-held = ap (λ (n : ℕ). drop n (held s)) (sym (length-held s)) ∙ lib.Seq.drop-length (held s)
-
--- ---- the rendered tables: bit k of byte b of table t is that of mask 8 t + k, and 0 where it is not held
-
-pub luts-bit : (s : MaskStore) (t b k : ℕ) → t < 8 → k < 8
-    → bit (getD (getD (luts s) t []) b 0) k ≡ cond (ltb (8 * t + k) (s .count)) (bit (getD (tableAt (s .tables) t) b 0) k) 0
-unfolding luts
-luts-bit s t b k ht hk =
-    ap (λ (l : List ℕ). bit (getD l b 0) k)
-    (getD-tab 0 8 (λ t. map (λ w. w % 2 ^ usedIn (s .count) t) (tableAt (s .tables) t)) t [] ht ∙ ap (λ (t : ℕ). map (λ w. w % 2 ^ usedIn (s .count) t) (tableAt (s .tables) t)) (omega arith))
-    ∙ ap (λ (n : ℕ). bit n k)
-    (ap (getD (map cut (tableAt (s .tables) t)) b) (sym (zero-mod (2 ^ used))) ∙ List·getD-map cut (tableAt (s .tables) t) b 0)
-    ∙ go (is (ltb (8 * t + k) (s .count)))
-  where
-    used : ℕ
-    used = usedIn (s .count) t
-
-    cut : ℕ → ℕ
-    cut w = w % 2 ^ used
-
-    go : Is (ltb (8 * t + k) (s .count))
-        → bit (getD (tableAt (s .tables) t) b 0 % 2 ^ used) k ≡ cond (ltb (8 * t + k) (s .count)) (bit (getD (tableAt (s .tables) t) b 0) k) 0
-    go (yes-is q) = let h : 8 * t + k < s .count = ltb-true _ _ q in rw q (bit-mod-below (getD (tableAt (s .tables) t) b 0) used k (omega arith))
-    go (no-is q) = let h : s .count ≤ 8 * t + k = ltb-false _ _ q in rw q (bit-mod-above (getD (tableAt (s .tables) t) b 0) used k (omega arith))
-
--- ---- one class added
-
-module _ (s : MaskStore) (c : Class) (size : length (s .tables) ≡ 2048) (wide : length c ≡ 256) (fine : takes s (c ∷ []) ≡ true) where
-  abbrev i : ℕ
-  i = numberOf (held s) c
-
-  abbrev cs : List Class
-  cs = c ∷ []
-
-  add-is : add s c ≡ record { answer = Number i; store = grown s cs }
-  unfolding add
-  add-is = rw fine
-
-  whole-one : allL whole cs ≡ true
-  whole-one = and-intro (whole c) _ (eq-eqb (length c) 256 wide) refl
-
-  room-one : length (heldWith s cs) ≤ 64
-  unfolding takes
-  room-one = leb-true _ _ (and-both (allowed s) _ fine .1)
-
-  -- the number that is answered is the class's in the store after it
-  number-after : numberOf (heldWith s cs) c ≡ i
-  unfolding heldWith
-  number-after = go (is (among (held s) c))
-    where
-      go : Is (among (held s) c) → numberOf (cond (among (held s) c) (held s) (held s ++ cs)) c ≡ i
-      go (yes-is q) = rw q
-      go (no-is q) =
-          let k : length (held s) ≤ numberOf (held s) c = ltb-false _ _ q in
-          let m = number-most (held s) c in
-          rw q (number-back (held s) cs c k ∙ omega (arith, number-here c c [] (same-self c)))
-
-  -- an equal class keeps its number, a new one takes the next; either way the store after it holds the class under that number
-  pub added-own : classAt (add s c .store .tables) i ≡ c
-  added-own =
-      ap (λ (a : Added). classAt (a .store .tables) i) add-is
-      ∙ ap (classAt (grown s cs .tables)) (sym number-after)
-      ∙ given-held s cs size whole-one room-one c (and-both (among (heldWith s cs) c) _ (all-given s cs size whole-one room-one) .0) .1
-
-  -- and every class that was held, under the number that it had
-  pub added-other : (j : ℕ) → j < s .count → classAt (add s c .store .tables) j ≡ classAt (s .tables) j
-  added-other j l = ap (λ (a : Added). classAt (a .store .tables) j) add-is ∙ old-held s cs size whole-one room-one j l

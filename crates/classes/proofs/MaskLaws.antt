@@ -14,10 +14,10 @@ use Rattle.lists.proofs.Bools.{Is, yes-is, no-is, is, Order, less, more, order,
 use Rattle.classes.specs.Classes.{Class, has}
 use Rattle.classes.specs.declared.masks.MaskStore.{MaskStore}
 use Rattle.classes.specs.Masks.{bit, isSet, tableAt, maskHas, classAt, held, heldWith, numberOf, met, withBit, withBits, written}
-use Rattle.classes.proofs.Bits.{bit-zero, bit-own, bit-other, set-own, set-other}
+use Rattle.classes.proofs.Bits.{bit-zero, bit-flag, bit-own, bit-other, set-own, set-other}
 use Rattle.classes.proofs.Numbers.{met-front, number-at}
 
--- ---- mask i has byte b exactly if class i has it
+-- ---- byte membership equals the set bit, for every mask and every byte
 
 pub table-at : (tables : List ℕ) (t b : ℕ) → b < 256 → getD (tableAt tables t) b 0 ≡ getD tables (256 * t + b) 0
 unfolding tableAt
@@ -32,6 +32,18 @@ mask-class tables i b h =
     ap (isSet (i % 8)) (sym (table-at tables (i / 8) b h))
     ∙ sym (List·getD-map (isSet (i % 8)) (tableAt tables (i / 8)) b 0)
     ∙ ap (getD (map (isSet (i % 8)) (tableAt tables (i / 8))) b) (unset-zero (i % 8))
+
+-- bit k of byte b of table t is the flag of mask 8 t + k
+pub table-bit : (tables : List ℕ) (t b k : ℕ) → b < 256 → k < 8 → bit (getD (tableAt tables t) b 0) k ≡ cond (has (classAt tables (8 * t + k)) b) 1 0
+unfolding maskHas
+table-bit tables t b k hb hk =
+    let et : t ≡ (8 * t + k) / 8 = omega arith in
+    let ek : k ≡ (8 * t + k) % 8 = omega arith in
+    let same : isSet k (getD (tableAt tables t) b 0) ≡ maskHas tables (8 * t + k) b =
+    ap (isSet k) (table-at tables t b hb)
+    ∙ ap (λ (i : ℕ). isSet k (getD tables (256 * i + b) 0)) et
+    ∙ ap (λ (j : ℕ). isSet j (getD tables (256 * ((8 * t + k) / 8) + b) 0)) ek in
+    bit-flag (getD (tableAt tables t) b 0) k ∙ ap (λ (x : Bool). cond x 1 0) (same ∙ mask-class tables (8 * t + k) b hb)
 
 pub length-held : (s : MaskStore) → length (held s) ≡ s .count
 unfolding held

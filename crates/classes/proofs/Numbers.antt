@@ -1,46 +1,41 @@
 -- Numbers of classes in a list, and lists that grow by the classes met. Assumes nothing.
 use mathlib.Core.Path.{_≡_, refl, sym, ap, subst, _∙_}
 use mathlib.Core.Bool.{Bool, true, false, cond, not, Bool·beq, false≢true}
-use mathlib.Core.List.{List, [], _∷_, _++_, append-assoc}
+use mathlib.Core.List.{List, [], _∷_, _++_, append-nil, append-assoc}
 use Prim.Native.Nat.{ℕ, zero, suc, _+_, _≤_, _<_, zero-le, suc-le-suc}
 use native.Mathlib.Nat.{not-suc-le-zero, le-of-suc-le-suc}
 use native.Mathlib.Omega.{arith}
 use borrow.Author.Tests.{ltb-true, ltb-false, lt-ltb, le-ltb, not-true}
 use lib.ListN.{length, getD, length-append}
 use Rattle.lists.specs.Lists.{allL}
+use Rattle.lists.proofs.Elements.{Sound, list-sound, same-sym}
 use Rattle.lists.proofs.Bools.{and-both, and-intro, Is, yes-is, no-is, is}
 use Rattle.classes.specs.Classes.{Class}
 use Rattle.classes.specs.Masks.{sameClass, numberOf, among, noneTwice, met}
 
-append-nil : {A : Type 0} (l : List A) → l ++ [] ≡ l
-append-nil [] = refl
-append-nil (x ∷ l) = ap (_∷_ x) (append-nil l)
-
 -- ---- the test of equality
 
-beq-eq : (x y : Bool) → Bool·beq x y ≡ true → x ≡ y
-beq-eq true true e = refl
-beq-eq true false e = absurd (false≢true e)
-beq-eq false true e = absurd (false≢true e)
-beq-eq false false e = refl
+pub beq-sound : Sound Bool·beq
+beq-sound = record { eq = eq′; self = self′ }
+  where
+    eq′ : (x y : Bool) → Bool·beq x y ≡ true → x ≡ y
+    eq′ true true e = refl
+    eq′ true false e = absurd (false≢true e)
+    eq′ false true e = absurd (false≢true e)
+    eq′ false false e = refl
 
-beq-self : (x : Bool) → Bool·beq x x ≡ true
-beq-self true = refl
-beq-self false = refl
+    self′ : (x : Bool) → Bool·beq x x ≡ true
+    self′ true = refl
+    self′ false = refl
+
+pub class-sound : Sound sameClass
+class-sound = list-sound Bool·beq beq-sound
 
 pub same-eq : (c d : Class) → sameClass c d ≡ true → c ≡ d
-same-eq [] [] e = refl
-same-eq [] (y ∷ d) e = absurd (false≢true e)
-same-eq (x ∷ c) [] e = absurd (false≢true e)
-same-eq (x ∷ c) (y ∷ d) e = go (is (Bool·beq x y)) (same-eq c d)
-  where
-    go : Is (Bool·beq x y) → (sameClass c d ≡ true → c ≡ d) → x ∷ c ≡ y ∷ d
-    go (yes-is q) f = let z : x ≡ y = beq-eq x y q in let z′ : c ≡ d = f (rw (q, sameClass) at e) in cc
-    go (no-is q) f = absurd (false≢true (rw (q, sameClass) at e))
+same-eq = class-sound .eq
 
 pub same-self : (c : Class) → sameClass c c ≡ true
-same-self [] = refl
-same-self (x ∷ c) = rw (beq-self x, sameClass) (same-self c)
+same-self = class-sound .self
 
 -- ---- numbers
 
@@ -177,13 +172,6 @@ met-has l (c ∷ cs) = go (is (among l c)) (met-has l cs) (met-has (l ++ c ∷ [
     go (yes-is q) f g = rw q (and-intro (among (met l cs) c) _ (among-met l cs c q) f)
     go (no-is q) f g = rw q (and-intro (among (met (l ++ c ∷ []) cs) c) _ (among-met (l ++ c ∷ []) cs c (among-last l c q)) g)
 
-same-sym : (c d : Class) → sameClass c d ≡ false → sameClass d c ≡ false
-same-sym c d n = go (is (sameClass d c))
-  where
-    go : Is (sameClass d c) → sameClass d c ≡ false
-    go (no-is q) = q
-    go (yes-is q) = absurd (false≢true (sym n ∙ ap (sameClass c) (same-eq d c q) ∙ same-self c))
-
 none-last : (l : List Class) (c : Class) → noneTwice l ≡ true → among l c ≡ false → noneTwice (l ++ c ∷ []) ≡ true
 none-last [] c a n = refl
 none-last (d ∷ l) c a n = go (is (sameClass c d)) (and-both (not (among l d)) _ a) (none-last l c)
@@ -198,7 +186,7 @@ none-last (d ∷ l) c a n = go (is (sameClass c d)) (and-both (not (among l d)) 
         let h : numberOf (d ∷ l) c ≡ suc (numberOf l c) = number-later c d l q in
         let k : length l ≤ numberOf l d = ltb-false _ _ (not-true _ (b .0)) in
         let e : numberOf (l ++ c ∷ []) d ≡ length l + numberOf (c ∷ []) d = number-back l (c ∷ []) d k in
-        let i : numberOf (c ∷ []) d ≡ 1 = number-later d c [] (same-sym c d q) in
+        let i : numberOf (c ∷ []) d ≡ 1 = number-later d c [] (same-sym sameClass class-sound c d q) in
         let out : among (l ++ c ∷ []) d ≡ false = le-ltb (numberOf (l ++ c ∷ []) d) (length (l ++ c ∷ [])) (omega (arith, length-append l (c ∷ []))) in
         let w : length l ≤ numberOf l c = omega (arith, late) in
         and-intro (not (among (l ++ c ∷ []) d)) _ (ap not out) (f (b .1) (le-ltb (numberOf l c) (length l) w))

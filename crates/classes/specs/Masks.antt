@@ -4,7 +4,7 @@ use mathlib.Core.List.{List, [], _∷_, _++_, map}
 use Prim.Native.Nat.{ℕ, suc, _+_, _*_, _-_, _/_, _%_, _^_, min}
 use lib.Dec.{eqb, leb, ltb}
 use lib.ListN.{length, getD, take, drop, replicate}
-use Rattle.lists.specs.Lists.{tab}
+use Rattle.lists.specs.Lists.{tab, eqList}
 use Rattle.lists.specs.Told.{Told, telling, refusing}
 use Rattle.classes.specs.Classes.{Class}
 use Rattle.classes.specs.declared.masks.MaskStore.{MaskStore}
@@ -34,6 +34,10 @@ maskHas tables i b = isSet (i % 8) (getD tables (256 * (i / 8) + b) 0)
 unfoldable pub classAt : List ℕ → ℕ → Class
 classAt tables i = map (isSet (i % 8)) (tableAt tables (i / 8))
 
+-- a store of these tables and this count
+abbrev pub storeOf : List ℕ → ℕ → MaskStore
+storeOf tables count = record { tables = tables; count = count }
+
 -- the classes that a store holds, in the order of their numbers
 unfoldable pub held : MaskStore → List Class
 held s = tab 0 (s .count) (classAt (s .tables))
@@ -41,10 +45,7 @@ held s = tab 0 (s .count) (classAt (s .tables))
 -- ---- lists of classes
 
 abbrev pub sameClass : Class → Class → Bool
-sameClass [] [] = true
-sameClass [] (y ∷ d) = false
-sameClass (x ∷ c) [] = false
-sameClass (x ∷ c) (y ∷ d) = elim (Bool·beq x y) [ true ↦ sameClass c d | false ↦ false ]
+sameClass = eqList Bool·beq
 
 -- the number of a class: that of the first that equals it; the next free one if none does
 abbrev pub numberOf : List Class → Class → ℕ
@@ -104,16 +105,16 @@ takes s cs = allowed s && leb (length (heldWith s cs)) 64
 
 -- the call: one class. Its number and the grown store; or 15, and the store as it was.
 
--- in document 01's numbers
+abbrev pub refusedWith : MaskStore → Added
+refusedWith s = record { answer = Refused 15; store = s }
+
+unfoldable pub add : MaskStore → Class → Added
+add s c = cond (takes s (c ∷ [])) (record { answer = Number (numberOf (held s) c); store = grown s (c ∷ []) }) (refusedWith s)
+
+-- its answer in document 01's numbers
 abbrev pub addTold : AddAnswer → Told
 addTold (Number i) = telling (i ∷ [])
 addTold (Refused n) = refusing n 1
-
-unfoldable pub add : MaskStore → Class → Added
-add s c =
-    cond (takes s (c ∷ []))
-    (record { answer = Number (numberOf (held s) c); store = grown s (c ∷ []) })
-    (record { answer = Refused 15; store = s })
 
 -- ---- "`render_luts` gives the eight tables of 256 bytes, unused bits 0": the masks of table t that are in use are its lowest bits
 

@@ -5,8 +5,15 @@ pub mod Closure
 pub mod Worklist
 pub mod Numbering
 pub mod Distinct
+pub mod Judged
+pub mod Those
+pub mod Any
+pub mod Padding
 pub mod Buffers
 pub mod Rising
 pub mod Sorted
 pub mod Selections
+pub mod Grid
 pub mod Runs
+pub mod Disjunctions
+pub mod Intervals

@@ -18,7 +18,7 @@ use Rattle.rules.proofs.Fits.{Fits}
 
 -- ---- a word, and none
 
-back-none : (word : ℕ) (o : Option ℕ) → ((x : ℕ) → o ≡ some x → x < word) → orNone word (Option·getD o word) ≡ o
+pub back-none : (word : ℕ) (o : Option ℕ) → ((x : ℕ) → o ≡ some x → x < word) → orNone word (Option·getD o word) ≡ o
 back-none word none f = rw (eq-eqb word word refl)
 back-none word (some x) f = rw (ne-eqb x word (λ e. let h : x < word = f x refl in omega arith))
 

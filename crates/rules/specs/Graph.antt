@@ -77,8 +77,17 @@ unfoldable pub graphFrom : List ℕ → Graph
 graphFrom w = record { states = map stateFrom (pieces 258 (getD w 0 0) (drop 2 w)); root = getD w 1 0 }
 
 -- refusal 12: "below 2, or below 2 + 258 a state, over 1,024 states, a target neither below the count nor 65,535, root not below the count (0 if none)"
+
+abbrev pub targetFits : ℕ → ℕ → Bool
+targetFits n u = ltb u n || eqb u 65535
+
+abbrev pub rowFits : ℕ → List ℕ → Bool
+rowFits n p = allL (targetFits n) (take 257 p)
+
+abbrev pub rootFits : ℕ → ℕ → Bool
+rootFits n root = ltb root n || (eqb n 0 && eqb root 0)
+
 unfoldable pub graphFits : List ℕ → Bool
 graphFits w =
     let n = getD w 0 0 in
-    leb 2 (length w) && (leb (2 + 258 * n) (length w) && (leb n 1024 &&
-    (allL (λ p. allL (λ u. ltb u n || eqb u 65535) (take 257 p)) (pieces 258 n (drop 2 w)) && (ltb (getD w 1 0) n || (eqb n 0 && eqb (getD w 1 0) 0)))))
+    leb 2 (length w) && (leb (2 + 258 * n) (length w) && (leb n 1024 && (allL (rowFits n) (pieces 258 n (drop 2 w)) && rootFits n (getD w 1 0))))

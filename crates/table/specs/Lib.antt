@@ -1,3 +1,4 @@
+pub mod Conditions
 pub mod Chains
 pub mod Slots
 pub mod Listed

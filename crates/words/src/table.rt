@@ -35,6 +35,40 @@ pub fn match_place(m: usize, n: usize, i: usize, c: usize) -> usize
     4 + 3 * m + 258 * n + 2 * (i - 1) + c
 }
 
+// Word c of leaf l.
+pub fn leaf_word(table: &[u16], l: usize, c: usize) -> usize
+    requires { ⌜ l < 65536 ⌝ }
+    requires { ⌜ c < 65536 ⌝ }
+    requires { ⌜ leafPlace l c < length (now table) ⌝ }
+    ensures { λ r. ⌜ (r ≡ getD (now (table .entry)) (leafPlace l c) 0) × (r < 65536) ⌝ }
+{
+    crate::word(table, leaf_place(l, c))
+}
+
+// Word c of state s.
+pub fn row_word(table: &[u16], m: usize, s: usize, c: usize) -> usize
+    requires { ⌜ m < 65536 ⌝ }
+    requires { ⌜ s < 65536 ⌝ }
+    requires { ⌜ c < 65536 ⌝ }
+    requires { ⌜ rowPlace m s c < length (now table) ⌝ }
+    ensures { λ r. ⌜ (r ≡ getD (now (table .entry)) (rowPlace m s c) 0) × (r < 65536) ⌝ }
+{
+    crate::word(table, row_place(m, s, c))
+}
+
+// Word c of match record i, from 1.
+pub fn match_word(table: &[u16], m: usize, n: usize, i: usize, c: usize) -> usize
+    requires { ⌜ m < 65536 ⌝ }
+    requires { ⌜ n < 65536 ⌝ }
+    requires { ⌜ i < 65536 ⌝ }
+    requires { ⌜ 0 < i ⌝ }
+    requires { ⌜ c < 65536 ⌝ }
+    requires { ⌜ matchPlace m n i c < length (now table) ⌝ }
+    ensures { λ r. ⌜ (r ≡ getD (now (table .entry)) (matchPlace m n i c) 0) × (r < 65536) ⌝ }
+{
+    crate::word(table, match_place(m, n, i, c))
+}
+
 // How many words a table has.
 pub fn size(n: usize, m: usize, r: usize) -> usize
     requires { ⌜ n < 65536 ⌝ }

@@ -1,0 +1,60 @@
+-- What the definitions answer, as lists of numbers, so that every case is one kind of equation. Each name unfolds all that it computes with.
+use mathlib.Core.List.{List, [], _∷_, _++_, map, flatMap}
+use mathlib.Core.Option.{none, some}
+use Prim.Native.Nat.{ℕ, zero, suc}
+use Rattle.lists.specs.Sets.{closure, round, rounds}
+use Rattle.lists.specs.Told.{Told}
+use Rattle.classes.specs.Classes.{Class, ranges, comparisons, cost}
+use Rattle.rules.specs.Table.{tableOf, refusal, conditions, matchFits, size, rowOf, step, leafAt, matchOf}
+use Rattle.rules.specs.Graph.{stateOf, to, acceptOf, earlyOf, leads, same, stateWords, graphWords, stateFrom, graphFrom, graphFits}
+use Rattle.rules.specs.Build.{errorWords, build, emptyLeaves, unpruned, merged, mergesNone, mergeRound, pruned, kept, withCleared, cleared, covered, withEarly, children, wholeGraph, firstState, ties, leafOf, contenders, chain, restrict, relabel, renamed, reached}
+use Rattle.rules.specs.Read.{readTable, readGraph, tableWalker, graphWalker}
+use Rattle.graph.specs.Answers.{readTold, tableRead, graphRead}
+use Rattle.plans.specs.declared.scan.Scan.{Scan}
+use Rattle.plans.specs.Scan.{fresh, gapLength, next, scanTold}
+use Rattle.display.specs.Text.{bytes, decimal}
+use Rattle.display.specs.Display.{letterOf, escaped, rangeText, classText, classTo, leadsTo, targets, firstLine, edgeLine, stateText, displayed, lineOf, conflictLine}
+
+abbrev pub numbers : Told → List ℕ
+numbers t = t .refusal ∷ t .values
+
+-- ---- classes
+
+unfoldable pub costOf : Class → List ℕ
+unfolding cost comparisons ranges
+costOf c = cost c ∷ []
+
+-- ---- a table's build
+
+unfoldable pub refusalOf : List ℕ → List ℕ
+unfolding refusal conditions tableOf matchFits matchOf
+refusalOf w = refusal w ∷ []
+
+unfoldable pub graphOf : List ℕ → List ℕ
+unfolding tableOf size rowOf step leafAt matchOf stateOf to acceptOf earlyOf leads same stateWords graphWords flatMap build emptyLeaves unpruned merged mergesNone mergeRound pruned kept withCleared cleared covered withEarly children wholeGraph firstState ties leafOf contenders chain restrict relabel renamed reached closure round rounds
+graphOf w = graphWords (build (tableOf w) .graph)
+
+unfoldable pub errorsOf : List ℕ → List ℕ
+unfolding graphOf
+errorsOf w = flatMap errorWords (build (tableOf w) .errors)
+
+-- what the graph printer prints: the graph's text and a line end, then a line for each error
+unfoldable pub printed : List ℕ → List ℕ
+unfolding graphOf costOf decimal letterOf escaped rangeText classText classTo leadsTo targets firstLine edgeLine stateText displayed lineOf conflictLine
+printed w = let b = build (tableOf w) in displayed (b .graph) ++ (bytes "\n" ++ flatMap (λ e. conflictLine e ++ bytes "\n") (b .errors))
+
+-- ---- readings and scans: by the table's words, and by the words of its graph
+
+unfoldable pub readBoth : List ℕ → List ℕ → List ℕ
+unfolding refusalOf graphOf stateFrom graphFrom graphFits readTable readGraph tableWalker graphWalker tableRead graphRead
+readBoth w text = numbers (readTold (tableRead w text)) ++ numbers (readTold (graphRead (graphOf w) text))
+
+-- the answers of k calls of the scan
+unfoldable pub calls : ℕ → List ℕ → List ℕ → Scan → List ℕ
+unfolding readBoth gapLength next
+calls zero graph text scan = []
+calls (suc k) graph text scan = let a = next graph text scan in numbers (scanTold (a .answer)) ++ calls k graph text (a .scan)
+
+unfoldable pub scanned : ℕ → List ℕ → List ℕ → List ℕ
+unfolding calls
+scanned k w text = calls k (graphOf w) text fresh

@@ -1,0 +1,6 @@
+// Scanning a text by a graph (document 01, "The scan is a machine over a text and a graph").
+//
+// What each call answers is defined in specs/Scan.antt; that a scan moves on and ends is in proofs/Scans.antt.
+
+pub mod list;
+pub mod scan;

@@ -1,0 +1,208 @@
+-- The graph that words hold which refusal 12 takes, and that only their count, root and targets decide whether it takes them. Assumes nothing.
+use mathlib.Core.Path.{_≡_, refl, sym, ap, subst, _∙_}
+use mathlib.Core.Bool.{true, false, _||_}
+use mathlib.Core.List.{List, []}
+use mathlib.Core.Option.{Option, none, some, Option·getD}
+use mathlib.Core.Logic.{_⊎_, ⊎-elim}
+use Prim.Native.Nat.{ℕ, _+_, _*_, _/_, _%_, _≤_, _<_}
+use native.Mathlib.Omega.{arith}
+use borrow.Author.Tests.{eqb-true, eq-eqb, le-leb, lt-ltb}
+use lib.Dec.{eqb, ltb}
+use lib.ListN.{length, getD, take, drop, length-map, List·getD-eq-default}
+use lib.Seq.{length-take-le, getD-take}
+use Rattle.lists.specs.Lists.{allL, pieces, eqOption}
+use Rattle.lists.proofs.Bools.{Is, is, yes-is, no-is, none-some, lt-or-le, and-intro, or-left, or-right}
+use Rattle.lists.proofs.Elements.{all-intro, map-at, option-sound}
+use Rattle.lists.proofs.Pieces.{pieces-length, piece-word}
+use Rattle.rules.specs.Graph.{State, Graph, blank, stateOf, to, acceptOf, earlyOf, orNone, stateFrom, graphFrom, graphFits}
+use Rattle.rules.proofs.Fits.{Fits}
+use Rattle.rules.proofs.Flat.{from-to, from-accept, from-early, piece, piece-length}
+use Rattle.rules.proofs.Taken.{taken-long, taken-few, taken-root, taken-target}
+use Rattle.rules.proofs.Views.{edge-within, out-accept, out-early}
+
+-- ---- a word, and none
+
+module _ (none-word x : ℕ) where
+  pub or-word : Option·getD (orNone none-word x) none-word ≡ x
+  or-word = go (is (eqb x none-word))
+    where
+      go : Is (eqb x none-word) → Option·getD (orNone none-word x) none-word ≡ x
+      go (yes-is q) = rw q (sym (eqb-true x none-word q))
+      go (no-is q) = rw q
+
+  pub or-none : x ≡ none-word → orNone none-word x ≡ none
+  or-none e = rw (eq-eqb x none-word e)
+
+  -- a number is not the word for none
+  pub or-some : (u : ℕ) → orNone none-word x ≡ some u → (x ≡ u) × (x ≡ none-word → ⊥)
+  or-some u e = (sym or-word ∙ ap (λ (o : Option ℕ). Option·getD o none-word) e, λ q. none-some (sym (or-none q) ∙ e))
+
+pub or-same : (none-word x y : ℕ) → orNone none-word x ≡ orNone none-word y → x ≡ y
+or-same n x y e = sym (or-word n x) ∙ ap (λ (o : Option ℕ). Option·getD o n) e ∙ or-word n y
+
+-- two that are not the word for none are equal where their words are
+pub word-inj : (k : ℕ) (a b : Option ℕ) → (a ≡ some k → ⊥) → (b ≡ some k → ⊥) → Option·getD a k ≡ Option·getD b k → a ≡ b
+word-inj k none none m n e = refl
+word-inj k none (some y) m n e = absurd (n (ap {B = Option ℕ} some (sym e)))
+word-inj k (some x) none m n e = absurd (m (ap {B = Option ℕ} some e))
+word-inj k (some x) (some y) m n e = ap {B = Option ℕ} some e
+
+-- ---- taken, from the words
+
+abbrev pub Target : ℕ → ℕ → Type 0
+Target n u = (u < n) ⊎ (u ≡ 65535)
+
+abbrev pub Root : ℕ → ℕ → Type 0
+Root n r = (r < n) ⊎ ((n ≡ 0) × (r ≡ 0))
+
+module _ (w : List ℕ) (long : 2 + 258 * getD w 0 0 ≤ length w) (few : getD w 0 0 ≤ 1024) where
+  abbrev n : ℕ
+  n = getD w 0 0
+
+  pub words-fit : ((s c : ℕ) → s < getD w 0 0 → c < 257 → Target (getD w 0 0) (getD w (2 + 258 * s + c) 0)) → Root (getD w 0 0) (getD w 1 0)
+      → graphFits w ≡ true
+  unfolding graphFits
+  words-fit targets root =
+      and-intro _ _ (le-leb 2 (length w) (omega arith)) (and-intro _ _ (le-leb (2 + 258 * n) (length w) long) (and-intro _ _ (le-leb n 1024 few)
+      (and-intro _ _ (all-intro (λ p. allL (λ u. ltb u n || eqb u 65535) (take 257 p)) rows [] row)
+      (⊎-elim
+      (λ h. or-left _ _ (lt-ltb (getD w 1 0) n h))
+      (λ h. or-right (ltb (getD w 1 0) n) _ (and-intro _ _ (eq-eqb n 0 (h .0)) (eq-eqb (getD w 1 0) 0 (h .1))))
+      root))))
+    where
+      rows : List (List ℕ)
+      rows = pieces 258 (getD w 0 0) (drop 2 w)
+
+      test : (u : ℕ) → Target n u → (ltb u n || eqb u 65535) ≡ true
+      test u t = ⊎-elim (λ h. or-left _ _ (lt-ltb u n h)) (λ h. or-right (ltb u n) _ (eq-eqb u 65535 h)) t
+
+      row : (s : ℕ) → s < length rows → allL (λ u. ltb u n || eqb u 65535) (take 257 (getD rows s [])) ≡ true
+      row s h =
+          let h′ : s < n = rw (pieces-length 258 n (drop 2 w)) at h in
+          let p = getD rows s [] in
+          let size : length (take 257 p) ≡ 257 = length-take-le 257 p (let e = piece-length w long s h′ in omega arith) in
+          all-intro (λ u. ltb u n || eqb u 65535) (take 257 p) 0 (λ c b.
+          let b′ : c < 257 = omega arith in
+          let e : getD (take 257 p) c 0 ≡ getD w (2 + 258 * s + c) 0 = getD-take 257 p c 0 b′ ∙ piece-word w 2 258 n s c 0 h′ (omega arith) in
+          test (getD (take 257 p) c 0) (subst (Target n) (sym e) (targets s c h′ b′)))
+
+-- ---- the graph that they hold
+
+pub from-length : (w : List ℕ) → length (graphFrom w .states) ≡ getD w 0 0
+unfolding graphFrom
+from-length w = length-map (pieces 258 (getD w 0 0) (drop 2 w)) stateFrom ∙ pieces-length 258 (getD w 0 0) (drop 2 w)
+
+module _ (w : List ℕ) (taken : graphFits w ≡ true) where
+  abbrev g : Graph
+  g = graphFrom w
+
+  pub from-width : (s : ℕ) → s < getD w 0 0 → length (stateOf (graphFrom w) s .steps) ≡ 257
+  unfolding stateOf graphFrom stateFrom
+  from-width s h =
+      let p = piece w (taken-long w taken) s h in
+      let e = piece-length w (taken-long w taken) s h in
+      let at : stateOf g s ≡ stateFrom p = map-at stateFrom (pieces 258 (getD w 0 0) (drop 2 w)) s [] blank (rw (pieces-length 258 (getD w 0 0) (drop 2 w)) h) in
+      ap (λ (x : State). length (x .steps)) at ∙ length-map (take 257 p) (orNone 65535) ∙ length-take-le 257 p (omega arith)
+
+  -- ---- its words, one by one
+
+  pub target-is : (s c : ℕ) → s < getD w 0 0 → c < 257 → Option·getD (to (graphFrom w) s c) 65535 ≡ getD w (2 + 258 * s + c) 0
+  target-is s c h b = ap (λ (o : Option ℕ). Option·getD o 65535) (from-to w (taken-long w taken) s h c b) ∙ or-word 65535 (getD w (2 + 258 * s + c) 0)
+
+  pub accept-is : (s : ℕ) → s < getD w 0 0 → Option·getD (acceptOf (graphFrom w) s) 255 ≡ getD w (2 + 258 * s + 257) 0 % 256
+  accept-is s h = ap (λ (o : Option ℕ). Option·getD o 255) (from-accept w (taken-long w taken) s h) ∙ or-word 255 (getD w (2 + 258 * s + 257) 0 % 256)
+
+  pub early-is : (s : ℕ) → s < getD w 0 0 → Option·getD (earlyOf (graphFrom w) s) 255 ≡ getD w (2 + 258 * s + 257) 0 / 256
+  early-is s h = ap (λ (o : Option ℕ). Option·getD o 255) (from-early w (taken-long w taken) s h) ∙ or-word 255 (getD w (2 + 258 * s + 257) 0 / 256)
+
+  -- ---- its edges
+
+  -- an edge is one of the 257, and leads to a state
+  pub from-edge : (s c u : ℕ) → to (graphFrom w) s c ≡ some u → (s < getD w 0 0) × (c < 257) × (getD w (2 + 258 * s + c) 0 ≡ u) × (u < getD w 0 0)
+  unfolding to
+  from-edge s c u e =
+      let h : s < getD w 0 0 = rw (from-length w) at (edge-within g s c u e) in
+      ⊎-elim
+      (λ b.
+      let (x, y) = or-some 65535 (getD w (2 + 258 * s + c) 0) u (sym (from-to w (taken-long w taken) s h c b) ∙ e) in
+      (h, b, x, ⊎-elim (λ l. subst (λ (z : ℕ). z < getD w 0 0) x l) (λ l. absurd (y l)) (taken-target w taken s c h b)))
+      (λ b. absurd (none-some (sym (List·getD-eq-default (stateOf g s .steps) none (rw (from-width s h) b)) ∙ e)))
+      (lt-or-le c 257)
+
+  -- what a target word says of its edge
+  module _ (s c r : ℕ) (r-is : r ≡ Option·getD (to (graphFrom w) s c) 65535) where
+    pub edge-none : r ≡ 65535 → to (graphFrom w) s c ≡ none
+    edge-none e = go (to g s c) refl
+      where
+        go : (o : Option ℕ) → to g s c ≡ o → to g s c ≡ none
+        go none q = q
+        go (some u) q =
+            let a : r ≡ u = r-is ∙ ap (λ (o : Option ℕ). Option·getD o 65535) q in
+            let b = from-edge s c u q .3 in
+            let few = taken-few w taken in
+            absurd (omega arith)
+
+    pub edge-some : (r ≡ 65535 → ⊥) → (to (graphFrom w) s c ≡ some r) × (r < getD w 0 0)
+    edge-some n = go (to g s c) refl
+      where
+        go : (o : Option ℕ) → to g s c ≡ o → (to g s c ≡ some r) × (r < getD w 0 0)
+        go none q = absurd (n (r-is ∙ ap (λ (o : Option ℕ). Option·getD o 65535) q))
+        go (some u) q =
+            let a : r ≡ u = r-is ∙ ap (λ (o : Option ℕ). Option·getD o 65535) q in
+            (q ∙ ap {B = Option ℕ} some (sym a), subst (λ (x : ℕ). x < getD w 0 0) (sym a) (from-edge s c u q .3))
+
+  -- ---- its leaves
+
+  -- a leaf is not the word for none
+  no-leaf : (x : ℕ) → orNone 255 x ≡ some 255 → ⊥
+  no-leaf x e = let (p, q) = or-some 255 x 255 e in q p
+
+  pub accept-leaf : (s : ℕ) → acceptOf (graphFrom w) s ≡ some 255 → ⊥
+  accept-leaf s e =
+      ⊎-elim
+      (λ h. no-leaf (getD w (2 + 258 * s + 257) 0 % 256) (sym (from-accept w (taken-long w taken) s h) ∙ e))
+      (λ h. none-some (sym (out-accept g s (rw (from-length w) h)) ∙ e))
+      (lt-or-le s (getD w 0 0))
+
+  pub early-leaf : (s : ℕ) → earlyOf (graphFrom w) s ≡ some 255 → ⊥
+  early-leaf s e =
+      ⊎-elim
+      (λ h. no-leaf (getD w (2 + 258 * s + 257) 0 / 256) (sym (from-early w (taken-long w taken) s h) ∙ e))
+      (λ h. none-some (sym (out-early g s (rw (from-length w) h)) ∙ e))
+      (lt-or-le s (getD w 0 0))
+
+  -- an early leaf and an accept, compared by their words
+  module _ (p u x y : ℕ) (x-is : x ≡ Option·getD (acceptOf (graphFrom w) u) 255) (y-is : y ≡ Option·getD (earlyOf (graphFrom w) p) 255) where
+    pub leaves-differ : (x ≡ y → ⊥) → eqOption (earlyOf (graphFrom w) p) (acceptOf (graphFrom w) u) ≡ false
+    leaves-differ n = go (is (eqOption (earlyOf g p) (acceptOf g u)))
+      where
+        go : Is (eqOption (earlyOf g p) (acceptOf g u)) → eqOption (earlyOf g p) (acceptOf g u) ≡ false
+        go (no-is q) = q
+        go (yes-is q) = absurd (n (x-is ∙ ap (λ (o : Option ℕ). Option·getD o 255) (sym (option-sound .eq (earlyOf g p) (acceptOf g u) q)) ∙ sym y-is))
+
+    pub leaves-agree : x ≡ y → eqOption (earlyOf (graphFrom w) p) (acceptOf (graphFrom w) u) ≡ true
+    leaves-agree e =
+        rw (word-inj 255 (earlyOf g p) (acceptOf g u) (early-leaf p) (accept-leaf u) (sym y-is ∙ sym e ∙ x-is)) (option-sound .self (acceptOf g u))
+
+  -- ---- it fits, as its marks are of two bytes
+  pub taken-fits : ((i : ℕ) → getD w i 0 < 65536) → Fits 255 (getD w 0 0) (graphFrom w)
+  unfolding acceptOf earlyOf graphFrom
+  taken-fits small =
+      record {
+        states = λ s h.
+            let h′ : s < getD w 0 0 = rw (from-length w) at h in
+            record {
+              width = from-width s h′;
+              accept-below = λ l e. leaf (getD w (2 + 258 * s + 257) 0 % 256) l (omega arith) (sym (from-accept w (taken-long w taken) s h′) ∙ e);
+              early-below = λ l e. leaf (getD w (2 + 258 * s + 257) 0 / 256) l (let b = small (2 + 258 * s + 257) in omega arith) (sym (from-early w (taken-long w taken) s h′) ∙ e);
+            };
+        closed = λ s c u e. rw (from-length w) (from-edge s c u e .3);
+        few = let e = from-length w in omega arith;
+        root = rw (from-length w) root′;
+      }
+    where
+      leaf : (x l : ℕ) → x < 256 → orNone 255 x ≡ some l → l < 255
+      leaf x l h e = let (p, q) = or-some 255 x l e in omega (arith, q)
+
+      root′ : (graphFrom w .root < getD w 0 0) ⊎ ((getD w 0 0 ≡ 0) × (graphFrom w .root ≡ 0))
+      root′ = taken-root w taken

@@ -1,0 +1,53 @@
+-- Each step of rules 5 to 8 keeps a graph within its words: rows of 257 targets, each below the count; leaves below m; a root that is a state, if
+-- there is one. Assumes nothing.
+use mathlib.Core.Path.{sym, ap, _∙_}
+use mathlib.Core.Logic.{⊎-elim}
+use Prim.Native.Nat.{ℕ, _<_}
+use native.Mathlib.Omega.{arith}
+use lib.ListN.{length}
+use Rattle.lists.proofs.Bools.{none-some}
+use Rattle.rules.specs.Graph.{State, Graph, acceptOf, earlyOf}
+use Rattle.rules.specs.Build.{withEarly, cleared, withCleared}
+use Rattle.rules.proofs.Fits.{Fits}
+use Rattle.rules.proofs.Marks.{early-state, early-to, early-accept, early-length, early-byte, cleared-length, cleared-state, cleared-to, cleared-accept}
+
+module _ (m n : ℕ) (g : Graph) (f : Fits m n g) where
+  -- ---- rule 5
+
+  pub early-fits : Fits m n (withEarly g)
+  unfolding acceptOf earlyOf withEarly
+  early-fits =
+      record {
+        states = λ s h.
+            let h′ : s < length (g .states) = rw (early-length g) at h in
+            record {
+              width = ap (λ (x : State). length (x .steps)) (early-state g s) ∙ f .states s h′ .width;
+              accept-below = λ l e. f .states s h′ .accept-below l (sym (early-accept g s) ∙ e);
+              early-below = λ l e.
+                  let wide = f .states s h′ .width in
+                  let (u, p, q) = early-byte g s l 0 e (omega arith) (omega arith) in
+                  f .states u (f .closed s 0 u p) .accept-below l q;
+            };
+        closed = λ s c u e. rw (early-length g) (f .closed s c u (sym (early-to g s c) ∙ e));
+        few = rw (early-length g) (f .few);
+        root = rw (early-length g) (f .root);
+      }
+
+  -- ---- rule 6
+
+  pub cleared-fits : Fits m n (withCleared g)
+  unfolding acceptOf earlyOf withCleared cleared
+  cleared-fits =
+      record {
+        states = λ s h.
+            let h′ : s < length (g .states) = rw (cleared-length g) at h in
+            record {
+              width = ap (λ (x : State). length (x .steps)) (cleared-state g s h′) ∙ f .states s h′ .width;
+              accept-below = λ l e.
+                  ⊎-elim (λ a. absurd (none-some (sym (a .1) ∙ e))) (λ a. f .states s h′ .accept-below l (sym a ∙ e)) (cleared-accept g s h′);
+              early-below = λ l e. f .states s h′ .early-below l (ap (λ (x : State). x .early) (sym (cleared-state g s h′)) ∙ e);
+            };
+        closed = λ s c u e. rw (cleared-length g) (f .closed s c u (sym (cleared-to g s c) ∙ e));
+        few = rw (cleared-length g) (f .few);
+        root = rw (cleared-length g) (f .root);
+      }

@@ -1,0 +1,284 @@
+#!/usr/bin/env python3
+"""Reads the stored lists as docs/ORACLE.md lays them out and holds every value against document 01's rules as oracle/paper reads them.
+
+    replay.py [NAME ..]
+"""
+import os
+import sys
+
+sys.dont_write_bytecode = True
+sys.path.insert(0, os.path.join(os.path.dirname(os.path.abspath(__file__)), "paper"))
+import builds as building
+import classes as classing
+import graphs
+import plans as planning
+import readings as reading
+import tables
+import texts
+import trees
+from forms import Refused, told
+
+LISTS = os.path.join(os.path.dirname(os.path.abspath(__file__)), "lists")
+
+
+class Stored:
+    """A list while it is read."""
+
+    def __init__(self, name):
+        with open(os.path.join(LISTS, name + ".bin"), "rb") as file:
+            self.all = file.read()
+        self.at = 0
+        self.checked = 0
+
+    def bytes(self, count):
+        self.at += count
+        assert self.at <= len(self.all), "the list ends early"
+        return self.all[self.at - count : self.at]
+
+    def number(self, width):
+        return int.from_bytes(self.bytes(width), "little")
+
+    def byte(self):
+        return self.number(1)
+
+    def half(self):
+        return self.number(2)
+
+    def word(self):
+        return self.number(4)
+
+    def words(self):
+        """Words in runs."""
+        length, words = self.word(), []
+        for _ in range(self.word()):
+            times, value = self.half(), self.half()
+            words += [value] * times
+        assert len(words) == length, "runs that do not come out even"
+        return words
+
+    def same(self, found, expected, what):
+        assert found == expected, f"{what}, before byte {self.at}: stored {expected}, by the rules {found}"
+        self.checked += 1
+
+
+# ---- classes
+
+
+def one_class(stored):
+    held = classing.class_of(stored.bytes(32))
+    ranges = [(stored.byte(), stored.byte()) for _ in range(stored.byte())]
+    stored.same(classing.ranges(held), ranges, "ranges")
+    comparisons = []
+    for _ in range(stored.byte()):
+        first, last, ops, exceptions = stored.byte(), stored.byte(), stored.byte(), stored.byte()
+        comparisons.append((first, last, list(stored.bytes(exceptions))))
+        stored.same(classing.count_ops(comparisons[-1]), ops, "count_ops")
+    stored.same(classing.comparisons(held), comparisons, "comparisons")
+    stored.same(classing.cost(held), stored.half(), "cost")
+    return held
+
+
+def rendered(stored, store):
+    luts = b"".join(stored.bytes(256) for _ in range(stored.byte()))
+    stored.same(classing.luts(store), luts.ljust(2048, b"\0"), "tables")
+
+
+def mask(store, added):
+    number = classing.store_add(store, added) if store is not None else None
+    return 255 if number is None else number
+
+
+def classes(stored):
+    held = [one_class(stored) for _ in range(stored.word())]
+    for _ in range(stored.half()):
+        stored.byte()
+        store = []
+        for _ in range(stored.half()):
+            stored.same(mask(store, held[stored.half()]), stored.byte(), "mask number")
+        stored.same(len(store), stored.byte(), "held")
+        rendered(stored, store)
+    for _ in range(stored.half()):
+        count, tables = stored.word(), stored.bytes(2048)
+        store = classing.store_of(tables, count)
+        for _ in range(stored.half()):
+            stored.same(mask(store, classing.class_of(stored.bytes(32))), stored.byte(), "mask number")
+        stored.same(count if store is None else len(store), stored.word(), "held")
+        refusal = stored.byte()
+        stored.same(15 if store is None else 0, refusal, "refusal")
+        if refusal == 0:
+            rendered(stored, store)
+
+
+# ---- priorities
+
+
+def half_priority(text):
+    points = trees.code_points(text)
+    return len(text) if points is None else points
+
+
+def priorities(stored):
+    pairs, edges = stored.bytes(16384), (0x7F, 0x80, 0xBF, 0xC0)
+    for x in range(256):
+        for y in range(256):
+            code = pairs[(256 * x + y) // 4] >> 2 * (y % 4) & 3
+            points = trees.code_points(bytes((x, y)))
+            stored.same(2 if points is None else points - 1, code, "two bytes")
+    threes = [(x, y, z) for x in range(0xE0, 0xF0) for y in range(256) for z in edges]
+    fours = [(w, x, y, z) for w in range(0xF0, 0xF8) for x in range(256) for y in edges for z in edges]
+    for strings in (threes, fours):
+        bits = stored.bytes(len(strings) // 8)
+        for i, string in enumerate(strings):
+            stored.same(trees.code_points(bytes(string)) == 1, bits[i // 8] >> i % 8 & 1 == 1, "one code point")
+    for _ in range(stored.word()):
+        text = stored.bytes(stored.byte())
+        stored.same(half_priority(text), stored.byte(), "literal")
+    for _ in range(stored.word()):
+        tree(stored)
+
+
+def tree(stored):
+    length, words = stored.half(), []
+    while len(words) < length:
+        given = stored.byte()
+        words += [stored.word() if given >> j & 1 else 0 for j in range(min(6, length - len(words)))]
+    text = stored.bytes(stored.half())
+    refusal, value = stored.byte(), stored.word()
+    found = told(lambda: trees.values(trees.tree_of(words, text), text)[length // 6])
+    stored.same(found, f"refused-{refusal}" if refusal else str(value), "priority")
+    refusal, value = stored.byte(), stored.byte()
+    found = told(lambda: trees.greedy_all(trees.tree_of(words, text), length // 6))
+    stored.same(found, f"refused-{refusal}" if refusal else str(value), "greedy")
+
+
+# ---- builds and texts
+
+
+def builds(stored):
+    for _ in range(stored.word()):
+        words, odd, _ = stored.words(), stored.byte(), stored.byte()
+        graph_buffer, error_buffer, refusal, image = stored.word(), stored.word(), stored.byte(), stored.byte()
+        graph = None
+        try:
+            graph, found = building.build_within(words, graph_buffer, error_buffer), 0
+        except Refused as refused:
+            found = refused.args[0]
+        stored.same(found, refusal, "refusal")
+        stored.same(13 if odd or 2 * len(words) > 65536 else found, image, "refusal of the image")
+        if refusal == 0:
+            stored.same((len(graph.rows), graph.root, len(graph.errors)), (stored.half(), stored.half(), stored.half()), "answer")
+            stored.same(graph.error_words(), stored.words(), "error words")
+            stored.same(graph.words(), stored.words(), "graph words")
+
+
+def display(stored):
+    for _ in range(stored.word()):
+        found = texts.display_text(stored.words())
+        refusal = stored.byte()
+        expected = f"refused-{refusal}" if refusal else stored.bytes(stored.word()).decode("ascii")
+        stored.same(found, expected, "text")
+
+
+# ---- readings
+
+
+def stored_reading(stored):
+    leaf, end = stored.half(), stored.half()
+    return None if leaf == 65535 else (leaf, end)
+
+
+def stored_pieces(stored, offset):
+    pieces = []
+    for _ in range(stored.half()):
+        leaf, length = stored.byte(), stored.half()
+        pieces.append((None if leaf == 255 else leaf, offset, offset + length))
+        offset += length
+    return pieces
+
+
+def readings(stored):
+    for _ in range(stored.word()):
+        table, words = tables.Table(stored.words()), stored.words()
+        graph = building.build(table)
+        stored.same(graph.words(), words, "graph words")
+        stored.same(reading.clean(table, graph.errors), stored.byte() == 1, "clean")
+        for _ in range(stored.half()):
+            text = stored.bytes(stored.half())
+            stored.same(reading.read_table(table, text), stored_reading(stored), "reading of the table")
+            stored.same(reading.read_graph(graph, text), stored_reading(stored), "reading of the graph")
+            stored.same(reading.scan(graph, text, 0), stored_pieces(stored, 0), "scan")
+    for _ in range(stored.word()):
+        words = stored.words()
+        refusal = stored.byte()
+        stored.same(told(lambda: graphs.graph_of(words) is None), f"refused-{refusal}" if refusal else "0", "refusal")
+        if refusal == 0:
+            texts_of_graph(stored, graphs.graph_of(words))
+
+
+def texts_of_graph(stored, graph):
+    for _ in range(stored.half()):
+        text = stored.bytes(stored.half())
+        stored.same(reading.read_graph(graph, text), stored_reading(stored), "reading of the graph")
+        offset, refusal = stored.word(), stored.byte()
+        stored.same(14 if offset > len(text) else 0, refusal, "refusal of the scan")
+        if refusal == 0:
+            stored.same(reading.scan(graph, text, offset), stored_pieces(stored, offset), "scan")
+
+
+# ---- plans
+
+
+def plans(stored):
+    for _ in range(stored.word()):
+        words, fill = stored.words(), stored.byte()
+        held = [classing.class_of(stored.bytes(32)) for _ in range(stored.byte())]
+        count, buffer, refusal = stored.word(), stored.word(), stored.byte()
+        before = planning.tables_of(fill, held)
+        try:
+            (chosen, store), found = planning.planned(words, before, count, buffer), 0
+        except Refused as refused:
+            found = refused.args[0]
+        stored.same(found, refusal, "refusal")
+        if refusal == 0:
+            stored.same(chosen, stored.words(), "plan")
+            added = [classing.class_of(stored.bytes(32)) for _ in range(stored.byte())]
+            stored.same(store[count:], added, "classes added")
+            after = planning.tables_of(fill, store)
+            for _ in range(stored.half()):
+                one_run(stored, words, chosen, [(before, count), (after, len(store))])
+
+
+def one_run(stored, words, chosen, stores):
+    tables, count = stores[stored.byte()]
+    given, at, value = chosen[: stored.half()], stored.half(), stored.half()
+    if at != 65535:
+        given[at] = value
+    text = stored.bytes(stored.half())
+    try:
+        refusal, found = 0, planning.run(words, tables, count, given, text)
+    except Refused as refused:
+        refusal, found = refused.args[0], None
+    stored.same((refusal, found), (stored.byte(), stored_reading(stored)), "run")
+
+
+REPLAYS = {
+    "classes": classes,
+    "priorities": priorities,
+    "builds": builds,
+    "display": display,
+    "readings": readings,
+    "plans": plans,
+}
+
+
+def main():
+    sys.setrecursionlimit(10000)
+    for name in sys.argv[1:] or REPLAYS:
+        stored = Stored(name)
+        REPLAYS[name](stored)
+        assert stored.at == len(stored.all), f"{name}: {len(stored.all) - stored.at} bytes are left"
+        print(f"{name}: {stored.checked} values alike")
+
+
+if __name__ == "__main__":
+    main()
