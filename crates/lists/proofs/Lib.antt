@@ -15,5 +15,6 @@ pub mod Sorted
 pub mod Selections
 pub mod Grid
 pub mod Runs
+pub mod Members
 pub mod Disjunctions
 pub mod Intervals

@@ -73,7 +73,7 @@ select-length (true ∷ keep) (x ∷ l) = suc-le-suc (select-length keep l)
 select-length (false ∷ keep) (x ∷ l) = let h = select-length keep l in omega arith
 
 module _ (g : Graph) (keep : List Bool) (len : length keep ≡ length (g .states)) where
-  restrict-fits : (m : ℕ) → AllFit m g → AllFit m (restrict keep g)
+  pub restrict-fits : (m : ℕ) → AllFit m g → AllFit m (restrict keep g)
   unfolding restrict
   restrict-fits m f = relabel-fits (numberFrom 0 keep) (select keep (g .states)) (g .root) m one
     where
@@ -83,11 +83,11 @@ module _ (g : Graph) (keep : List Bool) (len : length keep ≡ length (g .states
           let b : s < length keep = in-below keep s (in-number 0 keep s i n) in
           rw (restrict-placed g keep len s i n .1) (f s (omega arith))
 
-  restrict-closed : Closed (restrict keep g)
+  pub restrict-closed : Closed (restrict keep g)
   unfolding restrict
   restrict-closed = relabel-closed (numberFrom 0 keep) (select keep (g .states)) (g .root) (λ s i n. restrict-placed g keep len s i n .0)
 
-  restrict-few : length (restrict keep g .states) ≤ length (g .states)
+  pub restrict-few : length (restrict keep g .states) ≤ length (g .states)
   restrict-few = rw (restrict-length g keep len) (select-length keep (g .states))
 
 -- ---- rule 5
@@ -157,7 +157,7 @@ module _ (g : Graph) where
 -- ---- the build
 
 module _ (t : Table) (sh : Shaped t) (m : ℕ) (leaf : (s l : ℕ) → leafOf t s ≡ some l → l < m) (s₀ : ℕ) (st : t .start ≡ some s₀) where
-  whole-fits : AllFit m (wholeGraph t s₀)
+  pub whole-fits : AllFit m (wholeGraph t s₀)
   unfolding firstState
   whole-fits s h =
       let h′ : s < size t = rw (whole-length t sh s₀ st) at h in

@@ -55,11 +55,11 @@ module _ (w : List ℕ) where
       (λ s h b. le-leb (rowOf (tableOf w) s .head) (records w) (rw (head-word w s h) b))
       (λ s h e. rw (head-word w s h) at (leb-true (rowOf (tableOf w) s .head) (records w) e))
 
-  match-leaf : (i : ℕ) → 0 < i → i ≤ records w → matchOf (tableOf w) i .leaf ≡ leafWord w i
+  pub match-leaf : (i : ℕ) → 0 < i → i ≤ records w → matchOf (tableOf w) i .leaf ≡ leafWord w i
   match-leaf zero p h = absurd (omega arith)
   match-leaf (suc i) p h = leaf-word w i (omega arith) ∙ ap (λ (k : ℕ). getD w k 0) (omega arith)
 
-  match-next : (i : ℕ) → 0 < i → i ≤ records w → matchOf (tableOf w) i .next ≡ nextWord w i
+  pub match-next : (i : ℕ) → 0 < i → i ≤ records w → matchOf (tableOf w) i .next ≡ nextWord w i
   match-next zero p h = absurd (omega arith)
   match-next (suc i) p h = next-word w i (omega arith) ∙ ap (λ (k : ℕ). getD w k 0) (omega arith)
 

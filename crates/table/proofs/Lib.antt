@@ -7,6 +7,9 @@ pub mod Records
 pub mod Contenders
 pub mod Ascents
 pub mod Conflicts
+pub mod NewRows
+pub mod FirstRows
+pub mod FirstFits
 pub mod Slotted
 pub mod Orders
 pub mod Listing

@@ -9,7 +9,7 @@ use lib.Dec.{eqb}
 use lib.ListN.{length, getD, replicate}
 use Rattle.lists.specs.Sets.{In, Reach, closure, from-seed, by-edge}
 use Rattle.lists.proofs.Any.{any-at, any-found}
-use Rattle.lists.proofs.Closure.{closure-is, closure-length, reach-below}
+use Rattle.lists.proofs.Closure.{closure-is, closure-length, closure-sound, closure-complete, reach-below}
 use Rattle.lists.proofs.Padding.{padded}
 use Rattle.lists.proofs.Worklist.{AllIn}
 use Rattle.rules.specs.Table.{tableOf, rowOf, size, step, refusal}
@@ -68,3 +68,15 @@ module _ (w : List ℕ) (legal : refusal w ≡ 0) where
         only i
         ∙ ap (λ (k : ℕ). getD (closure (stepsTo (tableOf w)) k (eqb start)) i false) (sym (size-is w legal)))
         ∙ ap (λ (k : ℕ). reached (tableOf w) start ++ replicate (1024 - k) false) l
+
+    -- the list that computes, and the predicate
+    pub in-found : (s : ℕ) → In (reached (tableOf w) start) s → Found w start s
+    unfolding reached
+    in-found s h =
+        subst (λ (n : ℕ). Reach (stepsTo (tableOf w)) n (eqb start) s) (size-is w legal) (closure-sound (stepsTo (tableOf w)) (size (tableOf w)) (eqb start) s h)
+
+    pub found-in : (s : ℕ) → Found w start s → In (reached (tableOf w) start) s
+    unfolding reached
+    found-in s r =
+        closure-complete (stepsTo (tableOf w)) (size (tableOf w)) (eqb start) s
+        (subst (λ (n : ℕ). Reach (stepsTo (tableOf w)) n (eqb start) s) (sym (size-is w legal)) r)

@@ -1,4 +1,5 @@
 pub mod Conditions
 pub mod Chains
+pub mod Renumbering
 pub mod Slots
 pub mod Listed

@@ -75,7 +75,7 @@ module _ (c : tie.After-row-word Inv-loop2 μ-loop2 Inv-loop μ-loop) where
   target-found =
       let b = begin outer in
       subst (Found (words b) (b .args .start)) (sym target-is)
-      (found-step (words b) (b .pre .0) (b .args .start) (b .pre .1) (state outer) (c .before .before .loop2 .c) (state-found outer) (c .before .loop2-test .taken))
+      (found-step (words b) (b .pre .0) (b .args .start) (b .pre .1) (state outer) (c .before .before .loop2 .c) (state-found outer) (omega arith))
 
   target-below : c .row-word .result < 1024
   target-below =
