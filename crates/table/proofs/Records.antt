@@ -1,8 +1,8 @@
 -- The match records of a legal table: where they stand in the words, and that their numbers fall and their leaves rise along a chain. Assumes nothing.
-use mathlib.Core.Path.{_≡_, refl, sym, ap, _∙_}
-use mathlib.Core.Bool.{Bool, true, false, _&&_, _||_}
-use mathlib.Core.List.{List, [], _∷_}
-use mathlib.Core.Logic.{_⊎_, inl, inr, ⊎-elim}
+use mathlib.Core.Path.{_≡_, sym, ap, _∙_}
+use mathlib.Core.Bool.{true}
+use mathlib.Core.List.{List, []}
+use mathlib.Core.Logic.{⊎-elim}
 use Prim.Native.Nat.{ℕ, zero, suc, _+_, _*_, _-_, _≤_, _<_}
 use native.Mathlib.Omega.{arith}
 use borrow.Author.Tests.{eqb-true, ltb-true, leb-true}
@@ -12,10 +12,10 @@ use Rattle.lists.specs.Lists.{allL, below, pieces}
 use Rattle.lists.proofs.Bools.{and-both, or-cases, lt-or-le}
 use Rattle.lists.proofs.Elements.{getD-tab0, length-tab, all-at}
 use Rattle.lists.proofs.Pieces.{pieces-length}
-use Rattle.rules.specs.Table.{Row, tableOf, rowOf, leafAt, matchOf, matchFits, conditions, refusal}
+use Rattle.rules.specs.Table.{Row, tableOf, rowOf, matchOf, matchFits, conditions, refusal}
 use Rattle.rules.proofs.Shape.{none-broken, few-states, few-leaves, exact}
-use Rattle.rules.proofs.Flat.{leaf-word, next-word, priority-word}
-use Rattle.words.specs.Places.{matchPlace, leafPlace}
+use Rattle.rules.proofs.Flat.{leaf-word, next-word}
+use Rattle.words.specs.Places.{matchPlace}
 
 -- what an index into the words has to fit
 pub record Sizes (w : List ℕ) : Type 0 where

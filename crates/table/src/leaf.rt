@@ -3,7 +3,7 @@ ghost use mathlib.Core.Path.{_≡_};
 ghost use mathlib.Core.Option.{Option·getD};
 ghost use Prim.Native.Nat.{_<_, _≤_};
 ghost use lib.ListN.{getD};
-ghost use Rattle.rules.specs.Table.{tableOf, refusal, rowOf, leafAt, matchOf};
+ghost use Rattle.rules.specs.Table.{tableOf, refusal, rowOf, matchOf};
 ghost use Rattle.rules.specs.Build.{leafOf};
 ghost use Rattle.words.specs.Places.{matchPlace};
 ghost use Rattle.table.specs.Chains.{priorityAt, highestFrom, firstWith, topOf, nextTied};

@@ -5,7 +5,6 @@ use native.Mathlib.Omega.{arith}
 use lib.ListN.{getD}
 use Rattle.rules.specs.Table.{tableOf, leafAt}
 use Rattle.rules.proofs.Flat.{priority-word}
-use Rattle.words.specs.Places.{leafPlace}
 use Rattle.table.specs.Chains.{priorityAt}
 use Rattle.table.proofs.Records.{sizes}
 use borrow.Author.Needs.{needs}

@@ -1,11 +1,11 @@
 -- The errors of the leaves from l on are still to be written. The measure is how many those leaves are. Assumes nothing.
-use mathlib.Core.Path.{_≡_, sym, ap, ap₂, subst, subst₂, _∙_}
-use mathlib.Core.List.{List, [], _∷_, _++_}
+use mathlib.Core.Path.{_≡_, sym, ap, ap₂, subst₂, _∙_}
+use mathlib.Core.List.{List}
 use mathlib.Core.Logic.{⊎-elim}
-use Prim.Native.Nat.{ℕ, _+_, _-_, _≤_, _<_}
+use Prim.Native.Nat.{ℕ, _+_, _-_, _≤_}
 use native.Mathlib.Numerals.{add-one, add-two}
 use native.Mathlib.Omega.{arith}
-use lib.ListN.{length, getD, set, length-set, length-append}
+use lib.ListN.{length, getD, set, length-set}
 use Rattle.lists.proofs.Runs.{Underway, run-begun, run-more, run-room}
 use Rattle.rules.specs.Table.{tableOf, leafAt}
 use Rattle.rules.specs.Build.{emptyMatch, errorWords}
