@@ -6,3 +6,4 @@ pub mod Worklist
 pub mod Numbering
 pub mod Distinct
 pub mod Padding
+pub mod Selecting

@@ -7,3 +7,5 @@ pub mod Edges
 pub mod Parents
 pub mod BitRows
 pub mod Backward
+pub mod Rows
+pub mod Packing
