@@ -7,3 +7,4 @@ pub mod Numbering
 pub mod Distinct
 pub mod Padding
 pub mod Selecting
+pub mod Numbers

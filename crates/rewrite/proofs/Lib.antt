@@ -9,3 +9,5 @@ pub mod BitRows
 pub mod Backward
 pub mod Rows
 pub mod Packing
+pub mod Naming
+pub mod Pruning

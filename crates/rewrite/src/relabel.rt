@@ -8,7 +8,7 @@ ghost use mathlib.Core.Option.{none, Option·getD};
 ghost use mathlib.Core.Logic.{_⊎_};
 ghost use Prim.Native.Nat.{ℕ, _+_, _*_, _<_, _≤_};
 ghost use lib.ListN.{length, getD, drop};
-ghost use Rattle.lists.specs.Lists.{select};
+ghost use Rattle.lists.specs.Lists.{select, numberFrom};
 ghost use Rattle.words.specs.Places.{graphPlace};
 ghost use Rattle.rules.specs.Graph.{graphFits, graphFrom, graphBuffer};
 ghost use Rattle.rules.specs.Build.{relabel};
@@ -91,4 +91,23 @@ pub fn relabel(graph: &mut [u16], names: &[u16; 1024], stay: &[bool; 1024])
     zero_rows(graph, k, n);
     graph[0] = k as u16;
     graph[1] = root_name(names, root);
+}
+
+// The members of a set, numbered in ascending order; 65,535 elsewhere.
+pub fn numbered(keep: &[bool; 1024]) -> [u16; 1024]
+    requires { ⌜ length (now keep) ≡ 1024 ⌝ }
+    ensures { λ r. ⌜ namesOf r ≡ numberFrom 0 (now (keep .entry)) ⌝ }
+{
+    let mut out = [65535u16; 1024];
+    let mut k: usize = 0;
+    let mut next: usize = 0;
+    while next < 1024 {
+        let s = next;
+        next += 1;
+        if keep[s] {
+            out[s] = k as u16;
+            k += 1;
+        }
+    }
+    out
 }
