@@ -1,15 +1,19 @@
 -- Each step of rules 5 to 8 keeps a graph within its words: rows of 257 targets, each below the count; leaves below m; a root that is a state, if
 -- there is one. Assumes nothing.
-use mathlib.Core.Path.{sym, ap, _∙_}
+use mathlib.Core.Path.{_≡_, sym, ap, _∙_}
+use mathlib.Core.List.{List, map}
+use mathlib.Core.Option.{Option, none, some}
 use mathlib.Core.Logic.{⊎-elim}
-use Prim.Native.Nat.{ℕ, _<_}
+use Prim.Native.Nat.{ℕ, _≤_, _<_}
 use native.Mathlib.Omega.{arith}
-use lib.ListN.{length}
+use lib.ListN.{length, getD, length-map}
 use Rattle.lists.proofs.Bools.{none-some}
-use Rattle.rules.specs.Graph.{State, Graph, acceptOf, earlyOf}
-use Rattle.rules.specs.Build.{withEarly, cleared, withCleared}
-use Rattle.rules.proofs.Fits.{Fits}
+use Rattle.rules.specs.Graph.{State, Graph, blank, stateOf, acceptOf, earlyOf}
+use Rattle.rules.specs.Build.{renamed, relabel, withEarly, cleared, withCleared}
+use Rattle.rules.proofs.Fits.{Fits, FitsState}
 use Rattle.rules.proofs.Marks.{early-state, early-to, early-accept, early-length, early-byte, cleared-length, cleared-state, cleared-to, cleared-accept}
+use Rattle.rules.proofs.Rename.{led, relabel-state, relabel-to}
+use Rattle.rewrite.specs.Names.{Fitting}
 
 module _ (m n : ℕ) (g : Graph) (f : Fits m n g) where
   -- ---- rule 5
@@ -51,3 +55,29 @@ module _ (m n : ℕ) (g : Graph) (f : Fits m n g) where
         few = rw (cleared-length g) (f .few);
         root = rw (cleared-length g) (f .root);
       }
+
+  -- ---- rules 7 and 8: states that stay, known by new names
+
+  pub relabel-fits : (names : List (Option ℕ)) (rest : List State) → length rest ≤ n
+      → ((i : ℕ) → i < length rest → (s : ℕ) × (s < length (g .states)) × (getD rest i blank ≡ stateOf g s)) → Fitting names rest (g .root)
+      → Fits m n (relabel names rest (g .root))
+  unfolding renamed relabel
+  relabel-fits names rest less from names-fit =
+      record {
+        states = λ i h.
+            let h′ : i < length rest = rw size at h in
+            let (s, b, e) = from i h′ in
+            let old : FitsState m (getD rest i blank) = rw e (f .states s b) in
+            rw (relabel-state names rest (g .root) i)
+            (record { width = length-map (getD rest i blank .steps) _ ∙ old .width; accept-below = old .accept-below; early-below = old .early-below });
+        closed = λ s c u e. rw size (led-below (getD (getD rest s blank .steps) c none) u (sym (relabel-to names rest (g .root) s c) ∙ e));
+        few = rw size less;
+        root = rw size (names-fit .root-below);
+      }
+    where
+      size : length (map (renamed names) rest) ≡ length rest
+      size = length-map rest (renamed names)
+
+      led-below : (o : Option ℕ) (u : ℕ) → led names o ≡ some u → u < length rest
+      led-below none u e = absurd (none-some e)
+      led-below (some v) u e = names-fit .below v u e

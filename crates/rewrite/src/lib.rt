@@ -4,4 +4,5 @@ pub mod bits;
 pub mod clear;
 pub mod early;
 pub mod keep;
+pub mod relabel;
 pub mod views;
