@@ -14,3 +14,5 @@ pub mod Rising
 pub mod Sorted
 pub mod Selections
 pub mod Grid
+pub mod Disjunctions
+pub mod Intervals
