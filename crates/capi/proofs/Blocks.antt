@@ -1,17 +1,19 @@
--- A run of bytes that is written one by one, an array that is filled by a function, and a block that takes bytes or is too short. Assumes nothing.
-use mathlib.Core.Path.{_≡_, refl, sym, ap, _∙_}
+-- Runs of bytes that are written one by one, an array that is filled with the values of a function, and a block that takes bytes or is too short.
+-- Assumes nothing.
+use mathlib.Core.Path.{_≡_, sym, ap, _∙_}
 use mathlib.Core.List.{List, [], _∷_, _++_, append-nil}
 use Prim.Native.Nat.{ℕ, _+_, _≤_, _<_, zero-le}
 use native.Mathlib.Numerals.{add-one}
 use native.Mathlib.Omega.{arith}
 use borrow.Author.Count.{below-more}
-use borrow.Author.Tests.{lt-ltb, le-ltb}
-use lib.ListN.{length, getD, take, drop, set, length-set, drop-of-length-le}
+use borrow.Author.Tests.{lt-ltb, le-ltb, eq-eqb, ne-eqb}
+use lib.ListN.{length, getD, take, drop, set, length-append, length-set, drop-of-length-le}
 use lib.Seq.{sets, take-suc, length-take-le, ext-getD, getD-set-same, getD-set-other}
 use Rattle.lists.specs.Lists.{tab}
+use Rattle.lists.specs.Told.{Told}
 use Rattle.lists.proofs.Buffers.{sets-append, sets-front}
 use Rattle.lists.proofs.Elements.{length-tab, getD-tab0}
-use Rattle.capi.specs.Lent.{Put, put}
+use Rattle.capi.specs.Lent.{Put, put, putTold}
 
 -- ---- a run of stores
 
@@ -26,10 +28,22 @@ module _ {A : Type 0} where
       ∙ sym (sets-append out at (take i run) (x ∷ []))
       ∙ ap (λ (l : List A). sets out at l) (sym (take-suc run i d h) ∙ ap (λ (k : ℕ). take k run) (sym (add-one i)))
 
-  -- a run that fills the list takes its place
-  pub sets-whole : (out run : List A) → length run ≡ length out → sets out 0 run ≡ run
-  sets-whole out run e =
-      sets-front out run (omega arith) ∙ ap (λ (l : List A). run ++ l) (drop-of-length-le out {i = length run} (omega arith)) ∙ append-nil run
+  -- a run that fills the list
+  pub sets-whole : (found run : List A) → length run ≡ length found → sets found 0 run ≡ run
+  sets-whole found run e =
+      sets-front found run (omega arith) ∙ ap (λ (l : List A). run ++ l) (drop-of-length-le found {i = length run} (omega arith)) ∙ append-nil run
+
+  -- two that fill it
+  pub two-laid : (found a b : List A) {one both : List A} (n : ℕ) → length a ≡ n → n + length b ≡ length found
+      → one ≡ sets found 0 a → both ≡ sets one n b → both ≡ a ++ b
+  two-laid found a b n size rest first second =
+      let e : n ≡ 0 + length a = omega arith in
+      let long = length-append a b in
+      second
+      ∙ ap (λ (l : List A). sets l n b) first
+      ∙ ap (λ (k : ℕ). sets (sets found 0 a) k b) e
+      ∙ sym (sets-append found 0 a b)
+      ∙ sets-whole found (a ++ b) (omega arith)
 
 -- ---- an array of n that is filled with the values of a function, up to i
 
@@ -72,3 +86,12 @@ module _ (bytes block : List ℕ) where
   pub put-taken : length bytes ≤ length block → put bytes block ≡ record { refusal = 0; block = bytes ++ drop (length bytes) block }
   unfolding put
   put-taken h = rw (le-ltb _ _ h)
+
+-- ---- a count beside the bytes
+
+module _ (p : Put) (n : ℕ) {r : ℕ} (is : r ≡ p .refusal) where
+  pub told-taken : r ≡ 0 → putTold p n ≡ record { refusal = r; values = n ∷ [] }
+  told-taken z = rw (eq-eqb (p .refusal) 0 (sym is ∙ z)) (ap {B = Told} (λ (k : ℕ). record { refusal = k; values = n ∷ [] }) (sym z))
+
+  pub told-refused : (r ≡ 0 → ⊥) → putTold p n ≡ record { refusal = r; values = 0 ∷ [] }
+  told-refused z = rw (ne-eqb (p .refusal) 0 (λ e. z (is ∙ e))) (ap {B = Told} (λ (k : ℕ). record { refusal = k; values = 0 ∷ [] }) (sym is))

@@ -1,10 +1,11 @@
 -- Lent bytes: a class that a caller passes, and bytes that are handed out. Definitions only.
 use mathlib.Core.Bool.{Bool, not, cond}
-use mathlib.Core.List.{List, _++_}
+use mathlib.Core.List.{List, [], _∷_, _++_}
 use Prim.Native.Nat.{ℕ}
 use lib.Dec.{eqb, ltb}
 use lib.ListN.{length, getD, drop}
 use Rattle.lists.specs.Lists.{tab}
+use Rattle.lists.specs.Told.{Told, telling, refusing}
 use Rattle.classes.specs.Classes.{Class}
 
 -- ---- a class: byte b is in it if entry b is there and not 0. So all bytes, however many, are a class.
@@ -27,3 +28,7 @@ put bytes block =
     cond (ltb (length block) (length bytes))
     (record { refusal = 255; block = block })
     (record { refusal = 0; block = bytes ++ drop (length bytes) block })
+
+-- a count that is handed out beside them
+abbrev pub putTold : Put → ℕ → Told
+putTold p n = cond (eqb (p .refusal) 0) (telling (n ∷ [])) (refusing (p .refusal) 1)

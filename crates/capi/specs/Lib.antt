@@ -1,3 +1,4 @@
-pub mod Scans
 pub mod Lent
+pub mod Parts
+pub mod Scans
 pub mod Stores

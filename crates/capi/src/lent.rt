@@ -1,11 +1,11 @@
 // What is read from lent bytes, and written to them.
 ghost use mathlib.Core.Path.{_≡_};
-ghost use mathlib.Core.Bool.{not};
+ghost use mathlib.Core.List.{[], _∷_};
 ghost use Prim.Native.Nat.{_+_, _≤_};
-ghost use lib.Dec.{eqb};
-ghost use lib.ListN.{length, getD};
+ghost use lib.ListN.{length};
 ghost use lib.Seq.{sets};
-ghost use Rattle.capi.specs.Lent.{isFlag, flagsOf, put};
+ghost use Rattle.lists.specs.Told.{Told};
+ghost use Rattle.capi.specs.Lent.{isFlag, flagsOf, put, putTold};
 
 // Whether entry b is there and not 0.
 fn is_flag(flags: &[u8], b: usize) -> bool
@@ -48,4 +48,18 @@ pub fn put(bytes: &[u8], block: &mut [u8]) -> u8
     }
     write(bytes, block, 0);
     0
+}
+
+// The same with a count beside the bytes.
+pub fn put_counted(bytes: &[u8], n: usize, block: &mut [u8], count: &mut usize) -> u8
+    ensures { λ r. ⌜ putTold (put (now (bytes .entry)) (now (block .entry))) n ≡ record { refusal = r; values = now (count .exit) ∷ [] } ⌝ }
+    ensures { λ _. ⌜ now (block .exit) ≡ put (now (bytes .entry)) (now (block .entry)) .block ⌝ }
+{
+    let refusal = put(bytes, block);
+    if refusal == 0 {
+        *count = n;
+    } else {
+        *count = 0;
+    }
+    refusal
 }
