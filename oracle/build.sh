@@ -47,3 +47,10 @@ ln -sfn "$PWD/oracle/codegen/generator_leaf.rs" "$OUT/codegen/generator/leaf.rs"
 crate lib logos_codegen 2021 "-D warnings" "$OUT/codegen/lib.rs" regex_automata regex_syntax proc_macro2 quote syn fnv
 
 crate bin oracle 2021 "-D warnings" oracle/src/main.rs logos_codegen regex_automata regex_syntax proc_macro2
+
+# the C side of the case lines reads and writes them as the oracle does
+cc -std=c11 -O2 -Wall -Wextra -Werror -o "$OUT/echo" oracle/port/echo.c oracle/port/lines.c
+for name in classes priorities builds display readings plans; do
+    "$OUT/oracle" cases "$name" 1 200 >"$OUT/echo.cases"
+    "$OUT/echo" "$name" <"$OUT/echo.cases" | cmp - "$OUT/echo.cases"
+done

@@ -1,15 +1,16 @@
 #!/usr/bin/env bash
-# Builds the oracle, holds what it prints for the data images against their printed graphs, and writes the stored lists of its answers to
-# oracle/lists. The seeds are fixed: the same bytes come out every time. DATA names the folder of the images.
+# Builds the oracle, holds its texts and scans of the data images against the ones beside them, and writes the stored lists of its answers
+# to oracle/lists. The seeds are fixed: the same bytes come out every time. DATA names the folder of the images.
 set -eu
 cd "$(dirname "$0")/.."
 DATA=${DATA:-../shared/data}
 oracle/build.sh
 for image in "$DATA"/*.image; do
     target/oracle/oracle print <"$image" | cmp - "${image%.image}.printed"
+    target/oracle/oracle scan "$image" <"${image%.image}.sample" | cmp - "${image%.image}.scan"
 done
 mkdir -p oracle/lists
-for name in classes priorities builds display; do
+for name in classes priorities builds display readings plans; do
     target/oracle/oracle list "$name" "$DATA"/*.image >"oracle/lists/$name.bin"
 done
 ls -l oracle/lists

@@ -10,6 +10,10 @@ sys.dont_write_bytecode = True
 sys.path.insert(0, os.path.join(os.path.dirname(os.path.abspath(__file__)), "paper"))
 import builds as building
 import classes as classing
+import graphs
+import plans as planning
+import readings as reading
+import tables
 import texts
 import trees
 from forms import Refused, told
@@ -175,7 +179,96 @@ def display(stored):
         stored.same(found, expected, "text")
 
 
-REPLAYS = {"classes": classes, "priorities": priorities, "builds": builds, "display": display}
+# ---- readings
+
+
+def stored_reading(stored):
+    leaf, end = stored.half(), stored.half()
+    return None if leaf == 65535 else (leaf, end)
+
+
+def stored_pieces(stored, offset):
+    pieces = []
+    for _ in range(stored.half()):
+        leaf, length = stored.byte(), stored.half()
+        pieces.append((None if leaf == 255 else leaf, offset, offset + length))
+        offset += length
+    return pieces
+
+
+def readings(stored):
+    for _ in range(stored.word()):
+        table, words = tables.Table(stored.words()), stored.words()
+        graph = building.build(table)
+        stored.same(graph.words(), words, "graph words")
+        stored.same(reading.clean(table, graph.errors), stored.byte() == 1, "clean")
+        for _ in range(stored.half()):
+            text = stored.bytes(stored.half())
+            stored.same(reading.read_table(table, text), stored_reading(stored), "reading of the table")
+            stored.same(reading.read_graph(graph, text), stored_reading(stored), "reading of the graph")
+            stored.same(reading.scan(graph, text, 0), stored_pieces(stored, 0), "scan")
+    for _ in range(stored.word()):
+        words = stored.words()
+        refusal = stored.byte()
+        stored.same(told(lambda: graphs.graph_of(words) is None), f"refused-{refusal}" if refusal else "0", "refusal")
+        if refusal == 0:
+            texts_of_graph(stored, graphs.graph_of(words))
+
+
+def texts_of_graph(stored, graph):
+    for _ in range(stored.half()):
+        text = stored.bytes(stored.half())
+        stored.same(reading.read_graph(graph, text), stored_reading(stored), "reading of the graph")
+        offset, refusal = stored.word(), stored.byte()
+        stored.same(14 if offset > len(text) else 0, refusal, "refusal of the scan")
+        if refusal == 0:
+            stored.same(reading.scan(graph, text, offset), stored_pieces(stored, offset), "scan")
+
+
+# ---- plans
+
+
+def plans(stored):
+    for _ in range(stored.word()):
+        words, fill = stored.words(), stored.byte()
+        held = [classing.class_of(stored.bytes(32)) for _ in range(stored.byte())]
+        count, buffer, refusal = stored.word(), stored.word(), stored.byte()
+        before = planning.tables_of(fill, held)
+        try:
+            (chosen, store), found = planning.planned(words, before, count, buffer), 0
+        except Refused as refused:
+            found = refused.args[0]
+        stored.same(found, refusal, "refusal")
+        if refusal == 0:
+            stored.same(chosen, stored.words(), "plan")
+            added = [classing.class_of(stored.bytes(32)) for _ in range(stored.byte())]
+            stored.same(store[count:], added, "classes added")
+            after = planning.tables_of(fill, store)
+            for _ in range(stored.half()):
+                one_run(stored, words, chosen, [(before, count), (after, len(store))])
+
+
+def one_run(stored, words, chosen, stores):
+    tables, count = stores[stored.byte()]
+    given, at, value = chosen[: stored.half()], stored.half(), stored.half()
+    if at != 65535:
+        given[at] = value
+    text = stored.bytes(stored.half())
+    try:
+        refusal, found = 0, planning.run(words, tables, count, given, text)
+    except Refused as refused:
+        refusal, found = refused.args[0], None
+    stored.same((refusal, found), (stored.byte(), stored_reading(stored)), "run")
+
+
+REPLAYS = {
+    "classes": classes,
+    "priorities": priorities,
+    "builds": builds,
+    "display": display,
+    "readings": readings,
+    "plans": plans,
+}
 
 
 def main():

@@ -1,4 +1,4 @@
-//! Takes the place of `generator/leaf.rs`, which is not part of the reference: callbacks become nothing. As a child of `generator` it may
+//! Takes the place of `generator/leaf.rs`, which is not part of the reference: there are no callbacks. As a child of `generator` it may
 //! use that module's private items, so it opens the mask store and the generated states to the driver.
 
 use super::Generator;
@@ -10,11 +10,18 @@ use quote::quote;
 
 impl<'a> Generator<'a> {
     pub fn generate_callback(&self, _leaf: &Leaf) -> TokenStream {
-        quote!()
+        quote!(unreachable!())
     }
 
+    /// Where generated code stops, it answers with the leaf found, if any.
     pub fn take_action_macro(&self) -> TokenStream {
-        quote!()
+        quote! {
+            macro_rules! _take_action {
+                ($lex:ident, $offset:ident, $context:ident, $state:ident) => {
+                    return $lex.taken($context.map(|leaf: LogosLeaf| leaf as usize))
+                };
+            }
+        }
     }
 
     /// The mask number that `add_test_to_lut` answers with, by its table's name and its bit.

@@ -9,10 +9,19 @@ import sys
 sys.dont_write_bytecode = True
 import builds
 import classes
+import plans
+import readings
 import texts
 import trees
 
-LINES = {"classes": classes.line, "priorities": trees.line, "builds": builds.line, "display": texts.line}
+LINES = {
+    "classes": classes.line,
+    "priorities": trees.line,
+    "builds": builds.line,
+    "display": texts.line,
+    "readings": readings.line,
+    "plans": plans.line,
+}
 
 
 def main():

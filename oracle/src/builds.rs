@@ -11,7 +11,7 @@ mod cases;
 mod list;
 
 pub use cases::random_case;
-pub use list::list;
+pub use list::{k1, list};
 
 pub struct Case {
     pub table: Vec<u16>,

@@ -8,7 +8,7 @@ use std::collections::HashSet;
 mod cases;
 mod list;
 
-pub use cases::random_case;
+pub use cases::{random_case, random_class};
 pub use list::list;
 
 pub type Flags = [bool; 256];
@@ -133,7 +133,7 @@ pub fn packed(flags: &Flags) -> Vec<u8> {
     (0..32).map(|at| (0..8).map(|bit| u8::from(flags[8 * at + bit]) << bit).sum()).collect()
 }
 
-fn unpacked(bytes: &[u8]) -> Flags {
+pub fn unpacked(bytes: &[u8]) -> Flags {
     std::array::from_fn(|byte| bytes[byte / 8] >> (byte % 8) & 1 == 1)
 }
 

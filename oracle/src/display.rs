@@ -6,7 +6,7 @@ use crate::words::{words_of, words_text};
 mod cases;
 mod list;
 
-pub use cases::random_case;
+pub use cases::{damaged, free_graph, random_case, some_graph};
 pub use list::list;
 
 pub struct Case {

@@ -1,5 +1,6 @@
 //! Graph words of document 01, condition 12, and the original's graphs in both forms.
 
+use crate::original::leaves;
 use logos_codegen::graph::Graph;
 use logos_codegen::views::Row;
 
@@ -38,7 +39,8 @@ fn legal_target(word: u16, count: usize) -> bool {
 /// The original's graph of legal words.
 pub fn graph_of_words(words: &[u16]) -> Graph {
     let rows = words[2..2 + 258 * usize::from(words[0])].chunks(258).map(row).collect::<Vec<_>>();
-    Graph::of_rows(&rows, usize::from(words[1]), Vec::new())
+    // a mark names a leaf below 255
+    Graph::of_rows(&rows, usize::from(words[1]), leaves(255))
 }
 
 fn row(words: &[u16]) -> Row {

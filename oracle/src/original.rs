@@ -10,16 +10,27 @@ use logos_codegen::util::ToIdent;
 use proc_macro2::{Span, TokenStream};
 use regex_syntax::hir::{self, Hir};
 
+/// A generator over a graph, for a type named Token.
+fn generating<T>(graph: &Graph, machine: bool, ask: impl FnOnce(&mut Generator) -> T) -> T {
+    let name = "Token".to_ident();
+    let this = "Token".parse::<TokenStream>().expect("tokens");
+    let config = Config { use_state_machine_codegen: machine };
+    ask(&mut Generator::new(config, &name, &this, graph, &None))
+}
+
 /// A generator over a graph, its store holding these classes.
 pub fn generator_of<T>(graph: &Graph, held: &[Flags], ask: impl FnOnce(&mut Generator) -> T) -> T {
-    let name = "Token".to_ident();
-    let this = TokenStream::new();
-    let config = Config { use_state_machine_codegen: true };
-    let mut generator = Generator::new(config, &name, &this, graph, &None);
-    for flags in held {
-        generator.mask_number(&ByteClass::of_flags(flags));
-    }
-    ask(&mut generator)
+    generating(graph, true, |generator| {
+        for flags in held {
+            generator.mask_number(&ByteClass::of_flags(flags));
+        }
+        ask(generator)
+    })
+}
+
+/// The body of the generated `lex`, as a state machine or as calls.
+pub fn generated_code(graph: &Graph, machine: bool) -> String {
+    generating(graph, machine, |generator| generator.generate().to_string())
 }
 
 /// The mask store alone.
@@ -32,6 +43,11 @@ fn leaf(priority: usize, empty: bool) -> Leaf {
     hir::stage(Hir::of_minimum_len(if empty { 0 } else { 1 }));
     let pattern = Pattern::compile(false, "", String::new(), true, false).expect("a staged tree");
     Leaf::new(Span::call_site(), pattern).priority(priority)
+}
+
+/// So many leaves of which nothing is asked.
+pub fn leaves(count: usize) -> Vec<Leaf> {
+    vec![leaf(0, false); count]
 }
 
 /// `Graph::new` over the stand-in that answers from a table, which conditions 1 to 7 take.

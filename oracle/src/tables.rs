@@ -68,6 +68,7 @@ impl Table {
 pub struct Legal<'a> {
     words: &'a [u16],
     pub states: usize,
+    pub start: usize,
     pub leaves: usize,
 }
 
@@ -77,7 +78,7 @@ pub fn checked(words: &[u16]) -> Result<Legal<'_>, u8> {
         return Err(1);
     }
     let [states, start, leaves, records] = [0, 1, 2, 3].map(|at| usize::from(words[at]));
-    let table = Legal { words, states, leaves };
+    let table = Legal { words, states, start, leaves };
     if !(1..=1024).contains(&states) || leaves > 255 || records > 4095 {
         return Err(2);
     }
@@ -125,6 +126,40 @@ impl Legal<'_> {
     pub fn record(&self, number: usize) -> (usize, usize) {
         let at = 4 + 3 * self.leaves + 258 * self.states + 2 * (number - 1);
         (self.word(at), self.word(at + 1))
+    }
+
+    /// A state's leaf by rule 3: the one of highest priority in its chain, none if several share it.
+    pub fn leaf(&self, state: usize) -> Option<usize> {
+        let mut best = None;
+        let mut tied = false;
+        let mut record = self.head(state);
+        while record != 0 {
+            let (leaf, next) = self.record(record);
+            let priority = self.priority(leaf);
+            match best {
+                Some((_, highest)) if priority < highest => {}
+                Some((_, highest)) if priority == highest => tied = true,
+                _ => (best, tied) = (Some((leaf, priority)), false),
+            }
+            record = next;
+        }
+        best.filter(|_| !tied).map(|(leaf, _)| leaf)
+    }
+
+    /// The states reached from the start, which is one, by byte and end steps.
+    pub fn reached(&self) -> Vec<usize> {
+        let mut found = vec![false; self.states];
+        found[self.start] = true;
+        let mut waiting = vec![self.start];
+        while let Some(state) = waiting.pop() {
+            for target in (0..257).map(|step| self.step(state, step)) {
+                if !found[target] {
+                    found[target] = true;
+                    waiting.push(target);
+                }
+            }
+        }
+        (0..self.states).filter(|&state| found[state]).collect()
     }
 
     /// "A record's leaf is below m, its next is below its own number, and the leaf at next is greater."

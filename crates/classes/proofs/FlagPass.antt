@@ -2,17 +2,17 @@
 -- up to b is in the class. Assumes nothing.
 use mathlib.Core.Path.{_≡_, refl, sym, ap, _∙_}
 use mathlib.Core.Bool.{Bool, true, false}
-use mathlib.Core.List.{List, [], _∷_, _++_, map, map-append, append-assoc, append-nil}
+use mathlib.Core.List.{List, [], _∷_, _++_, map, append-nil}
 use Prim.Native.Nat.{ℕ, zero, suc, _+_, _-_, _≤_, _<_}
 use native.Mathlib.Numerals.{add-one}
 use native.Mathlib.Omega.{arith}
-use lib.ListN.{length, getD, drop, set, replicate, length-append, length-map, drop-of-length-le}
+use lib.ListN.{length, drop, set, replicate, length-append, drop-of-length-le}
 use lib.Seq.{drop-cons, append-snoc}
 use Rattle.classes.specs.Classes.{Class, has, Range, rangesFrom, ranges}
 use Rattle.classes.specs.ClassAnswers.{row, asByteClass}
 use Rattle.classes.specs.declared.byte_class.ByteClass.{ByteClass}
 use Rattle.classes.proofs.Ranges.{run-gap, run-end}
-use Rattle.classes.proofs.Rows.{row-none, column-get, column-push}
+use Rattle.classes.proofs.Rows.{row-none, column-push}
 
 -- ---- ranges stored in two arrays
 
@@ -140,18 +140,3 @@ module _ (c : Class) (wide : length c ≡ 256) where
         let s : start ≡ 256 = omega (arith, p .begun) in
         let r : rangesFrom start (drop start c) ≡ [] = rw (s, past) in
         stored-whole (p .stored) ∙ ap asByteClass (sym (append-nil (p .done)) ∙ rw (← r) (p .whole))
-
--- ---- what is read of the struct again
-
-module _ (rs : List Range) {class : ByteClass} (e : class ≡ asByteClass rs) where
-  pub held-count : class .count ≡ length rs
-  unfolding asByteClass
-  held-count = rw e
-
-  pub held-next : (i : ℕ) → i < class .count → drop i rs ≡ record { first = getD (class .first) i 0; last = getD (class .last) i 0 } ∷ drop (suc i) rs
-  unfolding asByteClass
-  held-next i h =
-      let none : Range = record { first = 0; last = 0 } in
-      let n : i < length rs = omega (arith, held-count) in
-      let at : (f : Range → ℕ) → getD (row (map f rs)) i 0 ≡ f (getD rs i none) = λ f. column-get f rs i none n in
-      drop-cons rs i none n ∙ rw (e, at (λ r. r .first), at (λ r. r .last))

@@ -2,11 +2,11 @@
 -- be lengthened. Assumes nothing.
 use mathlib.Core.Path.{_≡_, refl, sym, ap, _∙_}
 use mathlib.Core.List.{List, [], _∷_, _++_, map, append-assoc, append-nil}
-use Prim.Native.Nat.{ℕ, zero, suc, _+_, _-_, _≤_, _<_}
+use Prim.Native.Nat.{ℕ, suc, _+_, _-_, _≤_, _<_}
 use native.Mathlib.Numerals.{add-one}
 use native.Mathlib.Omega.{arith}
 use lib.ListN.{length, getD, drop, set, replicate, length-append, drop-of-length-le}
-use lib.Seq.{drop-cons, append-snoc}
+use lib.Seq.{append-snoc}
 use Rattle.classes.specs.Classes.{Range, Comparison, join, joined}
 use Rattle.classes.specs.ClassAnswers.{row, exceptions, asComparisons}
 use Rattle.classes.specs.declared.byte_class.Comparisons.{Comparisons}

@@ -1,9 +1,10 @@
 pub mod Ranges
+pub mod Maximal
 pub mod Rows
+pub mod Answers
 pub mod FlagPass
 pub mod Joining
 pub mod Listed
-pub mod Costs
 pub mod Bits
 pub mod Numbers
 pub mod Search

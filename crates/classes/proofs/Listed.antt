@@ -1,16 +1,15 @@
 -- Comparisons that stand in arrays, read one after another: which of them hold of a byte. Assumes nothing.
-use mathlib.Core.Path.{_≡_, refl, sym, ap, _∙_}
-use mathlib.Core.Bool.{Bool, true, false, not, _&&_, _||_}
-use mathlib.Core.List.{List, [], _∷_, _++_, map, append-assoc}
+use mathlib.Core.Path.{_≡_, refl, sym}
+use mathlib.Core.Bool.{true, false, _||_}
+use mathlib.Core.List.{List, [], _∷_}
 use Prim.Native.Nat.{ℕ, zero, suc, _+_, _-_, _≤_, _<_, min}
 use native.Mathlib.Numerals.{add-one}
 use native.Mathlib.Omega.{arith}
 use borrow.Author.Tests.{eq-eqb, ne-eqb}
-use lib.Dec.{eqb}
-use lib.ListN.{length, getD, take, drop, drop-of-length-le, length-map, length-drop}
-use lib.Seq.{drop-cons, drop-drop, take-append-seam, drop-append-seam}
-use Rattle.classes.specs.Classes.{Comparison, excepted, holds, someHolds}
-use Rattle.classes.specs.ClassAnswers.{row, exceptions, asComparisons, listed}
+use lib.ListN.{length, getD, take, drop, drop-of-length-le, length-drop}
+use lib.Seq.{drop-cons, drop-drop}
+use Rattle.classes.specs.Classes.{excepted, holds, someHolds}
+use Rattle.classes.specs.ClassAnswers.{listed}
 
 -- ---- no more is taken or dropped than there is
 
@@ -40,22 +39,9 @@ module _ (xs : List ℕ) (b j : ℕ) (inside : j < length xs) where
 pub excepted-none : (xs : List ℕ) (b j : ℕ) → length xs ≤ j → excepted (drop j xs) b ≡ false
 excepted-none xs b j h = rw (drop-of-length-le xs h)
 
--- ---- comparisons laid out and read back
+-- ---- the comparisons, one after another
 
-pub listed-laid : (ms : List Comparison) (f l h x : List ℕ)
-    → listed (length ms) (map (λ m. m .range .first) ms ++ f) (map (λ m. m .range .last) ms ++ l) (map (λ m. length (m .except)) ms ++ h) (exceptions ms ++ x) ≡ ms
-listed-laid [] f l h x = refl
-listed-laid (m ∷ ms) f l h x =
-    rw (append-assoc (m .except) (exceptions ms) x, take-append-seam (m .except) (exceptions ms ++ x), drop-append-seam (m .except) (exceptions ms ++ x), listed-laid ms f l h x)
-
--- what a class's comparisons are laid out as is read back as these comparisons
-pub listed-answer : (ms : List Comparison) → let r = asComparisons ms in listed (r .count) (r .first) (r .last) (r .holes) (r .except) ≡ ms
-unfolding asComparisons row
-listed-answer ms = listed-laid ms _ _ _ _
-
--- ---- the next of them
-
--- as many as each list has
+-- no more than each list has
 pub listed-least : (n : ℕ) (fs ls hs xs : List ℕ) → listed n fs ls hs xs ≡ listed (min n (min (length fs) (min (length ls) (length hs)))) fs ls hs xs
 listed-least zero fs ls hs xs = let e : min zero (min (length fs) (min (length ls) (length hs))) ≡ 0 = omega arith in rw e
 listed-least (suc n) [] ls hs xs = let e : min (suc n) (min 0 (min (length ls) (length hs))) ≡ 0 = omega arith in rw e
@@ -66,7 +52,7 @@ listed-least (suc n) (f ∷ fs) (l ∷ ls) (h ∷ hs) xs =
     rw (e, ← listed-least n fs ls hs (drop h xs))
 
 module _ (fs ls hs xs : List ℕ) where
-  pub listed-next : (n i at : ℕ) → i < n → n ≤ length fs → n ≤ length ls → n ≤ length hs
+  listed-next : (n i at : ℕ) → i < n → n ≤ length fs → n ≤ length ls → n ≤ length hs
       → listed (n - i) (drop i fs) (drop i ls) (drop i hs) (drop at xs)
       ≡ record { range = record { first = getD fs i 0; last = getD ls i 0 }; except = take (getD hs i 0) (drop at xs) }
       ∷ listed (n - (i + 1)) (drop (i + 1) fs) (drop (i + 1) ls) (drop (i + 1) hs) (drop (at + getD hs i 0) xs)
@@ -74,7 +60,7 @@ module _ (fs ls hs xs : List ℕ) where
       let k : n - i ≡ suc (n - (i + 1)) = omega arith in
       rw (k, add-one i, drop-cons fs i 0 (omega arith), drop-cons ls i 0 (omega arith), drop-cons hs i 0 (omega arith), ← drop-drop (getD hs i 0) at xs)
 
-  -- whose exceptions end at `end`, and then those after it
+  -- the next one, whose exceptions end at `end`, or one of those after it
   pub some-next : (n i at end b : ℕ) → i < n → n ≤ length fs → n ≤ length ls → n ≤ length hs → at ≤ length xs → end ≡ min (at + getD hs i 0) (length xs)
       → someHolds (listed (n - i) (drop i fs) (drop i ls) (drop i hs) (drop at xs)) b
       ≡ (holds (record { range = record { first = getD fs i 0; last = getD ls i 0 }; except = take (end - at) (drop at xs) }) b

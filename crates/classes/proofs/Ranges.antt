@@ -70,7 +70,7 @@ widen-within b x (apart-cons {r = r} {rs = rs} h k a) = go (is (eqb (r .first) (
         rw (e, inside-front b (r .last) x (omega arith), q) (or-assoc (eqb x b) (inside (record { first = suc b; last = r .last }) x) (within rs x))
     go (no-is e) = rw (e, inside-one b x)
 
-within-below : (low x : ℕ) {rs : List Range} → Apart low rs → x < low → within rs x ≡ false
+pub within-below : (low x : ℕ) {rs : List Range} → Apart low rs → x < low → within rs x ≡ false
 within-below low x apart-nil h = refl
 within-below low x (apart-cons {r = r} {rs = rs} a b c) h =
     rw (lt-leb (r .first) x (omega arith)) (within-below (suc (suc (r .last))) x c (omega arith))

@@ -1,9 +1,9 @@
 -- An array filled from the front: the next value, another last one, and what is read. Assumes nothing.
 use mathlib.Core.Path.{_≡_, refl, sym, ap, _∙_}
 use mathlib.Core.List.{List, [], _∷_, _++_, map, map-append}
-use Prim.Native.Nat.{ℕ, suc, _+_, _-_, _≤_, _<_}
+use Prim.Native.Nat.{ℕ, suc, _-_, _<_}
 use native.Mathlib.Omega.{arith}
-use lib.ListN.{length, getD, set, replicate, length-append, length-map, length-replicate, List·getD-append}
+use lib.ListN.{length, getD, set, replicate, length-append, length-map, List·getD-append}
 use lib.Seq.{set-append-seam, getD-append-seam, append-snoc}
 use Rattle.lists.proofs.Elements.{map-at}
 use Rattle.classes.specs.ClassAnswers.{row}
@@ -11,10 +11,6 @@ use Rattle.classes.specs.ClassAnswers.{row}
 pub row-none : row [] ≡ replicate 128 0
 unfolding row
 row-none = refl
-
-pub row-length : (l : List ℕ) → length l ≤ 128 → length (row l) ≡ 128
-unfolding row
-row-length l h = simp (length-append, length-replicate) (omega arith)
 
 pub row-at : (l : List ℕ) (i : ℕ) → i < length l → getD (row l) i 0 ≡ getD l i 0
 unfolding row

@@ -2,7 +2,7 @@
 use mathlib.Core.List.{List, [], _∷_, _++_, map}
 use Prim.Native.Nat.{ℕ, zero, suc, _-_}
 use lib.ListN.{length, take, drop, replicate}
-use Rattle.classes.specs.Classes.{Class, Range, ranges, Comparison, comparisons}
+use Rattle.classes.specs.Classes.{Range, Comparison}
 use Rattle.classes.specs.declared.byte_class.ByteClass.{ByteClass}
 use Rattle.classes.specs.declared.byte_class.Comparisons.{Comparisons}
 

@@ -25,7 +25,7 @@ pub struct Comparisons {
     pub count: usize,
 }
 
-// The maximal ranges of a class that is passed whole, in one pass over its flags.
+// The maximal ranges of a class, in one pass over its flags. It comes by value, since only then its length is known to the proof.
 fn runs(class: [bool; 256]) -> ByteClass
     ensures { λ r. ⌜ r ≡ asByteClass (ranges class) ⌝ }
     ensures room { λ r. ⌜ r .count ≤ 128 ⌝ }
@@ -85,6 +85,7 @@ pub fn impl_with_cmp(class: &[bool; 256]) -> Comparisons
         let from = held.first[i];
         let upto = held.last[i];
         if from as usize == end + 2 {
+            // the byte between is an exception of the latest
             let latest = count - 1;
             except[gaps] = from - 1;
             gaps += 1;
@@ -109,6 +110,7 @@ pub fn impl_with_cmp(class: &[bool; 256]) -> Comparisons
 // The operations that one end of a range takes: none where the type enforces it.
 fn end_ops(enforced: bool) -> usize
     ensures { λ r. ⌜ r ≡ cond enforced 0 1 ⌝ }
+    ensures few { λ r. ⌜ r ≤ 1 ⌝ }
 {
     if enforced { 0 } else { 1 }
 }
@@ -116,6 +118,7 @@ fn end_ops(enforced: bool) -> usize
 // The operations that one comparison takes: one for a single byte, else one for each end that is not 0 or 255; and one for each exception.
 pub fn count_ops(first: u8, last: u8, exceptions: u8) -> usize
     ensures { λ r. ⌜ r ≡ opsOf first last exceptions ⌝ }
+    ensures few { λ r. ⌜ r ≤ 257 ⌝ }
 {
     if first == last {
         1 + exceptions as usize
@@ -161,7 +164,7 @@ fn least(a: usize, b: usize) -> usize
     if a < b { a } else { b }
 }
 
-// Whether one of the comparisons holds of the byte. The arrays are those of `Comparisons`, lent one by one.
+// Whether one of `count` comparisons holds of the byte. The slices are the arrays of `Comparisons`, lent one by one, or parts of longer ones.
 pub fn some_holds<'a>(
     first: &'a [u8],
     last: &'a [u8],

@@ -2,3 +2,12 @@ pub mod Runs
 pub mod Decimals
 pub mod Escapes
 pub mod Rows
+pub mod Joins
+pub mod Bars
+pub mod Lines
+pub mod Parts
+pub mod States
+pub mod ClassSize
+pub mod Sizes
+pub mod Members
+pub mod Calls

@@ -69,6 +69,10 @@ module _ (part rest : List ℕ) {found total mid : List ℕ} {at next : ℕ} (u 
 pub ends : {found total out : List ℕ} {at next : ℕ} → Underway found at total [] out next → Wrote found at total out next
 ends u = wrote-as (sym (append-nil (u .text)) ∙ u .whole) (u .wrote)
 
+-- what is to come, said otherwise
+pub underway-as : {found total rest other out : List ℕ} {at next : ℕ} → rest ≡ other → Underway found at total rest out next → Underway found at total other out next
+underway-as {found} {total} {rest} {other} {out} {at} {next} e u = subst (λ (r : List ℕ). Underway found at total r out next) e u
+
 -- the last part
 pub ends-with : (part : List ℕ) {found total mid out : List ℕ} {at next end : ℕ} → Underway found at total part mid next → Wrote mid next part out end
     → Wrote found at total out end

@@ -74,6 +74,10 @@ firstLine s accept early =
 unfoldable pub edgeLine : Class → ℕ → List ℕ
 edgeLine c u = bytes "    " ++ (classText c ++ (bytes " => " ++ nameOf u))
 
+-- one for each target
+unfoldable pub edgeLines : ℕ → State → List (List ℕ)
+edgeLines n st = map (λ u. edgeLine (classTo st u) u) (targets n st)
+
 abbrev pub endLines : Option ℕ → List (List ℕ)
 endLines none = []
 endLines (some u) = (bytes "    EOI => " ++ nameOf u) ∷ []
@@ -82,8 +86,7 @@ endLines (some u) = (bytes "    EOI => " ++ nameOf u) ∷ []
 unfoldable pub stateText : ℕ → ℕ → State → List ℕ
 stateText n s st =
     joined (bytes "\n")
-    (firstLine s (st .accept) (st .early)
-    ∷ (map (λ u. edgeLine (classTo st u) u) (targets n st) ++ (endLines (getD (st .steps) 256 none) ++ (bytes "  }" ∷ []))))
+    (firstLine s (st .accept) (st .early) ∷ (edgeLines n st ++ (endLines (getD (st .steps) 256 none) ++ (bytes "  }" ∷ []))))
 
 -- ---- a graph: its states, ascending
 

@@ -1,8 +1,9 @@
 // The text of a class of bytes (`ByteClass` in the Rust).
 ghost use mathlib.Core.Path.{_≡_};
+ghost use mathlib.Core.List.{_++_};
 ghost use Prim.Native.Nat.{_<_};
-ghost use Rattle.display.specs.Text.{Wrote, Counts};
-ghost use Rattle.display.specs.Display.{hexDigit, letterOf, escaped, rangeText};
+ghost use Rattle.display.specs.Text.{bytes, Wrote, Counts};
+ghost use Rattle.display.specs.Display.{hexDigit, letterOf, escaped, rangeText, classText};
 use crate::put;
 
 // The letter after the backslash, of a byte that is written so; 0 of another.
@@ -53,4 +54,32 @@ pub fn range(out: &mut [u8], at: usize, first: u8, last: u8) -> usize
     let next = escape_default(out, at, first);
     let next = put::text(out, next, b"..=");
     escape_default(out, next, last)
+}
+
+// A range after a bar.
+fn next_range(out: &mut [u8], at: usize, first: u8, last: u8) -> usize
+    requires { ⌜ Counts at (bytes "|" ++ rangeText first last) ⌝ }
+    ensures { λ r. ⌜ Wrote (now (out .entry)) at (bytes "|" ++ rangeText first last) (now (out .exit)) r ⌝ }
+{
+    let next = put::byte(out, at, b'|');
+    range(out, next, first, last)
+}
+
+// A class: its maximal ranges, with a bar between two.
+pub fn class(out: &mut [u8], at: usize, class: &[bool; 256]) -> usize
+    requires { ⌜ Counts at (classText (now class)) ⌝ }
+    ensures { λ r. ⌜ Wrote (now (out .entry)) at (classText (now (class .entry))) (now (out .exit)) r ⌝ }
+{
+    let held = classes::byte_class::ranges(class);
+    let count = held.count;
+    if count == 0 {
+        return at;
+    }
+    let mut next = range(out, at, held.first[0], held.last[0]);
+    let mut i: usize = 1;
+    while i < count {
+        next = next_range(out, next, held.first[i], held.last[i]);
+        i += 1;
+    }
+    next
 }

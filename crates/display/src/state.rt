@@ -1,8 +1,14 @@
 // The text of a state (`StateData` in the Rust).
-ghost use Prim.Native.Nat.{_/_, _%_};
-ghost use Rattle.rules.specs.Graph.{orNone};
+ghost use mathlib.Core.Path.{_≡_};
+ghost use mathlib.Core.Bool.{true};
+ghost use mathlib.Core.List.{_++_};
+ghost use Prim.Native.Nat.{_/_, _%_, _<_};
+ghost use lib.ListN.{getD};
+ghost use Rattle.rules.specs.Graph.{stateOf, orNone, graphFrom, graphFits};
 ghost use Rattle.display.specs.Text.{after, bytes, Wrote, Counts};
-ghost use Rattle.display.specs.Display.{markText, firstLine, endLines};
+ghost use Rattle.display.specs.Display.{markText, firstLine, edgeLine, edgeLines, endLines, stateText};
+use crate::byte_class;
+use crate::edges;
 use crate::put;
 
 // A mark: its name and its leaf; nothing for 255.
@@ -29,6 +35,38 @@ fn first_line(out: &mut [u8], at: usize, s: usize, marks: usize) -> usize
     put::text(out, next, b") {")
 }
 
+// The line of an edge, after a line end.
+fn edge_line(out: &mut [u8], at: usize, class: &[bool; 256], u: usize) -> usize
+    requires { ⌜ Counts at (bytes "\n" ++ edgeLine (now class) u) ⌝ }
+    ensures { λ r. ⌜ Wrote (now (out .entry)) at (bytes "\n" ++ edgeLine (now (class .entry)) u) (now (out .exit)) r ⌝ }
+{
+    let next = put::text(out, at, b"\n    ");
+    let next = byte_class::class(out, next, class);
+    put::numbered(out, next, b" => state", u)
+}
+
+// The lines of the byte edges of state s, each after a line end.
+fn edge_lines(out: &mut [u8], at: usize, graph: &[u16], s: usize) -> usize
+    requires { ⌜ graphFits (now graph) ≡ true ⌝ }
+    requires { ⌜ s < getD (now graph) 0 0 ⌝ }
+    requires { ⌜ Counts at (after (bytes "\n") (edgeLines (getD (now graph) 0 0) (stateOf (graphFrom (now graph)) s))) ⌝ }
+    ensures { λ r. ⌜ Wrote (now (out .entry)) at (after (bytes "\n") (edgeLines (getD (now (graph .entry)) 0 0) (stateOf (graphFrom (now (graph .entry))) s))) (now (out .exit)) r ⌝ }
+{
+    let n = words::word(graph, 0);
+    let found = edges::targets(graph, s);
+    let mut next = at;
+    let mut u: usize = 0;
+    while u < n {
+        let target = u;
+        u += 1;
+        if found[target] {
+            let class = edges::class_to(graph, s, target);
+            next = edge_line(out, next, &class, target);
+        }
+    }
+    next
+}
+
 // The line of the end edge, after a line end; nothing for 65,535.
 fn end_line(out: &mut [u8], at: usize, target: usize) -> usize
     requires { ⌜ Counts at (after (bytes "\n") (endLines (orNone 65535 target))) ⌝ }
@@ -38,4 +76,19 @@ fn end_line(out: &mut [u8], at: usize, target: usize) -> usize
         return at;
     }
     put::numbered(out, at, b"\n    EOI => state", target)
+}
+
+// The text of state s: its marks, each class and target, EOI.
+pub fn state(out: &mut [u8], at: usize, graph: &[u16], s: usize) -> usize
+    requires { ⌜ graphFits (now graph) ≡ true ⌝ }
+    requires { ⌜ s < getD (now graph) 0 0 ⌝ }
+    requires { ⌜ Counts at (stateText (getD (now graph) 0 0) s (stateOf (graphFrom (now graph)) s)) ⌝ }
+    ensures { λ r. ⌜ Wrote (now (out .entry)) at (stateText (getD (now (graph .entry)) 0 0) s (stateOf (graphFrom (now (graph .entry))) s)) (now (out .exit)) r ⌝ }
+{
+    let marks = words::graph::word(graph, s, 257);
+    let end = words::graph::word(graph, s, 256);
+    let next = first_line(out, at, s, marks);
+    let next = edge_lines(out, next, graph, s);
+    let next = end_line(out, next, end);
+    put::text(out, next, b"\n  }")
 }

@@ -14,3 +14,6 @@ pub mod Rising
 pub mod Sorted
 pub mod Selections
 pub mod Grid
+pub mod Runs
+pub mod Disjunctions
+pub mod Intervals

@@ -56,6 +56,14 @@ before-trans (x ∷ a) (y ∷ b) (z ∷ c) p q = go (order x y) (order y z) (bef
     go (equal h) (equal k) f =
         before-equal x z a c (h ∙ k) ∙ f (sym (before-equal x y a b h) ∙ p) (sym (before-equal y z b c k) ∙ q)
 
+-- what is not before a later one is not before an earlier one
+pub before-not : (a b c : List ℕ) → before b c ≡ true → before a c ≡ false → before a b ≡ false
+before-not a b c q n = go (is (before a b))
+  where
+    go : Is (before a b) → before a b ≡ false
+    go (no-is p) = p
+    go (yes-is p) = absurd (false≢true (sym n ∙ before-trans a b c p q))
+
 -- two lists that are each before the other are one
 pub before-antisym : (a b : List ℕ) → before a b ≡ true → before b a ≡ true → a ≡ b
 before-antisym [] [] p q = refl

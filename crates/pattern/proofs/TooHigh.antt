@@ -1,101 +1,65 @@
 -- Refusal 11 is decided at the root: some record's value is above the limit just where the root's tree passes it, since every record but the
 -- root is named by a later one. Assumes nothing.
 use mathlib.Core.Path.{_≡_, refl, sym, ap, _∙_}
-use mathlib.Core.Bool.{Bool, true, false, _&&_, _||_}
-use mathlib.Core.List.{List, map}
-use Prim.Native.Nat.{ℕ, zero, suc, _+_, _-_, _/_, _%_, _<_, _≤_}
+use mathlib.Core.Bool.{Bool, true, false, _||_}
+use mathlib.Core.List.{List}
+use mathlib.Core.Logic.{_⊎_, inl, inr, ⊎-elim}
+use Prim.Native.Nat.{ℕ, zero, suc, _+_, _-_, _<_, _≤_}
 use native.Mathlib.Omega.{arith}
-use lib.Dec.{eqb, leb, ltb}
+use lib.Dec.{eqb, ltb}
 use lib.ListN.{length, getD}
-use borrow.Author.Tests.{ne-eqb, ltb-true, ltb-false, leb-true, eqb-true, le-ltb}
-use Rattle.lists.specs.Lists.{tab, allL}
-use Rattle.lists.proofs.Bools.{and-both}
-use Rattle.lists.proofs.Elements.{length-tab, getD-tab, all-at}
-use Rattle.pattern.specs.Tree.{Record, Tree, Chain, empty, done, part, firstOf, count, recordOf, numbers, shapes, treeOf, chainAt, treeAt, root, rules, ruleOf, childrenFit, occurs, named, recordFits, treeFits}
-use Rattle.pattern.specs.Priority.{priority, limit, valueAt, anyAbove, tooHigh}
-use Rattle.pattern.specs.Priced.{passes, somePasses, answer, priced, Within}
-use Rattle.pattern.specs.declared.Priced.{Priced}
+use borrow.Author.Tests.{eqb-true, ltb-true, ltb-false, le-ltb}
+use Rattle.lists.specs.Lists.{those}
+use Rattle.lists.proofs.Bools.{Is, is, yes-is, no-is, or-left, or-right, or-false, lt-or-le}
+use Rattle.lists.proofs.Disjunctions.{or-neither, neither-or}
+use Rattle.lists.proofs.Intervals.{some-from, none-from, counted-from}
+use Rattle.pattern.specs.Tree.{Tree, Chain, empty, done, part, firstOf, count, recordOf, numbers, shapes, treeOf, chainAt, treeAt, root, named, treeFits}
+use Rattle.pattern.specs.Priority.{priority, limit, valueAt, tooHigh}
+use Rattle.pattern.specs.Priced.{passes, somePasses}
+use Rattle.pattern.specs.declared.tree.Record.{Record}
+use Rattle.pattern.proofs.KindRules.{by-kind}
 use Rattle.pattern.proofs.PricedLaws.{within}
-use Rattle.pattern.proofs.TreeLaws.{zero-or, kind-below, child-below, next-below, children-fit, chain-none, chain-part}
+use Rattle.pattern.proofs.TreeLaws.{zero-or, tree-rules, rules-of, child-there, child-none, named-by, chain-none, chain-part, first-child}
 
-clash : (b : Bool) → b ≡ true → b ≡ false → ⊥
-clash b p q = let z : _≡_ {A = Bool} true false = sym p ∙ q in let y : _≡_ {A = ℕ} 0 1 = cc in omega arith
-
-or-left : (a b : Bool) → a ≡ true → (a || b) ≡ true
-or-left true b h = refl
-or-left false b h = absurd (clash false h refl)
-
-or-right : (a b : Bool) → b ≡ true → (a || b) ≡ true
-or-right true b h = refl
-or-right false b h = h
-
-or-neither : (a b : Bool) → a ≡ false → b ≡ false → (a || b) ≡ false
-or-neither true b h k = h
-or-neither false b h k = k
-
-neither-of : (a b : Bool) → (a || b) ≡ false → (a ≡ false) × (b ≡ false)
-neither-of true b h = absurd (clash true refl h)
-neither-of false b h = (refl, h)
-
--- what is not false is true
-true-unless : (b : Bool) → (b ≡ false → ⊥) → b ≡ true
-true-unless true f = refl
-true-unless false f = absurd (f refl)
-
--- ---- the records of a list of numbers
-
-module _ (w bytes : List ℕ) where
-  above-none : (m s i : ℕ) → anyAbove w bytes (tab s m (λ (k : ℕ). k)) ≡ false → s ≤ i → i < s + m → valueAt w bytes i ≤ limit
-  above-none zero s i h l u = absurd (omega arith)
-  above-none (suc m) s i h l u =
-      let both = neither-of (ltb limit (valueAt w bytes s)) (anyAbove w bytes (tab (suc s) m (λ (k : ℕ). k))) h in
-      let here : valueAt w bytes s ≤ limit = ltb-false _ _ (both .0) in
-      zero-or (i - s) (λ z. let q : s ≡ i = omega arith in rw q at here) (λ p. above-none m (suc s) i (both .1) (omega arith) (omega arith))
-
-  above-some : (m s : ℕ) → anyAbove w bytes (tab s m (λ (k : ℕ). k)) ≡ true → (i : ℕ) × (s ≤ i) × (i < s + m) × (limit < valueAt w bytes i)
-  above-some zero s h = absurd (clash false h refl)
-  above-some (suc m) s h = go (ltb limit (valueAt w bytes s)) refl (λ q. above-some m (suc s) q)
-    where
-      go : (b : Bool) → ltb limit (valueAt w bytes s) ≡ b
-          → (anyAbove w bytes (tab (suc s) m (λ (k : ℕ). k)) ≡ true → (i : ℕ) × (suc s ≤ i) × (i < suc s + m) × (limit < valueAt w bytes i)) → (i : ℕ) × (s ≤ i) × (i < s + suc m) × (limit < valueAt w bytes i)
-      go true e later = (s, omega arith, omega arith, ltb-true _ _ e)
-      go false e later = let found = later (rw e at h) in (found .0, omega (arith, found .1), omega (arith, found .2), found .3)
-
-passed-by : (b : Bool) (n : ℕ) → b ≡ false → 0 < (elim b as (λ _. ℕ) [ true ↦ suc n | false ↦ n ]) → 0 < n
-passed-by true n e h = absurd (clash true refl e)
-passed-by false n e h = h
-
-occurs-at : (f : ℕ → ℕ) (i m s : ℕ) → 0 < occurs i (map f (tab s m (λ (k : ℕ). k))) → (j : ℕ) × (s ≤ j) × (j < s + m) × (f j ≡ i)
-occurs-at f i zero s h = absurd (omega arith)
-occurs-at f i (suc m) s h = go (eqb (f s) i) refl (λ q. occurs-at f i m (suc s) q)
+passes-above : (t : Tree) → limit < priority t → passes t ≡ true
+passes-above t h = go (is (passes t))
   where
-    go : (b : Bool) → eqb (f s) i ≡ b
-        → (0 < occurs i (map f (tab (suc s) m (λ (k : ℕ). k))) → (j : ℕ) × (suc s ≤ j) × (j < suc s + m) × (f j ≡ i)) → (j : ℕ) × (s ≤ j) × (j < s + suc m) × (f j ≡ i)
-    go true e later = (s, omega arith, omega arith, eqb-true _ _ e)
-    go false e later = let found = later (passed-by (eqb (f s) i) (occurs i (map f (tab (suc s) m (λ (k : ℕ). k)))) e h) in (found .0, omega (arith, found .1), omega (arith, found .2), found .3)
+    go : Is (passes t) → passes t ≡ true
+    go (yes-is e) = e
+    go (no-is e) = let v : priority t ≤ limit = within t e in absurd (omega arith)
 
--- ---- the tree of a record, by its kind
+-- ---- a tree passes the limit by its own value or in its children
 
 first-quiet : (c : Chain) → somePasses c ≡ false → passes (firstOf c) ≡ false
 unfolding somePasses passes
 first-quiet done h = refl
-first-quiet (part t c) h = neither-of (passes t) (somePasses c) h .0
+first-quiet (part t c) h = or-neither (passes t) (somePasses c) h .0
 
--- a tree passes the limit by its own value or in its children
-quiet : (bytes : List ℕ) (r : Record) (c : Chain) (k : ℕ) → somePasses c ≡ false → priority (getD (shapes bytes r c) k empty) ≤ limit → passes (getD (shapes bytes r c) k empty) ≡ false
+quiet : (bytes : List ℕ) (r : Record) (c : Chain) → somePasses c ≡ false → (k : ℕ) → k < 8 → priority (getD (shapes bytes r c) k empty) ≤ limit → passes (getD (shapes bytes r c) k empty) ≡ false
 unfolding passes priority
-quiet bytes r c zero h v = refl
-quiet bytes r c (suc zero) h v = le-ltb _ _ v
-quiet bytes r c (suc (suc zero)) h v = refl
-quiet bytes r c (suc (suc (suc zero))) h v = refl
-quiet bytes r c (suc (suc (suc (suc zero)))) h v = or-neither _ _ (first-quiet c h) (le-ltb _ _ v)
-quiet bytes r c (suc (suc (suc (suc (suc zero))))) h v = first-quiet c h
-quiet bytes r c (suc (suc (suc (suc (suc (suc zero)))))) h v = or-neither _ _ h (le-ltb _ _ v)
-quiet bytes r c (suc (suc (suc (suc (suc (suc (suc zero))))))) h v = or-neither _ _ h (le-ltb _ _ v)
-quiet bytes r c (suc (suc (suc (suc (suc (suc (suc (suc k)))))))) h v = refl
+quiet bytes r c h =
+    by-kind (λ k. priority (getD (shapes bytes r c) k empty) ≤ limit → passes (getD (shapes bytes r c) k empty) ≡ false)
+    (λ v. refl)
+    (λ v. le-ltb _ _ v)
+    (λ v. refl)
+    (λ v. refl)
+    (λ v. neither-or _ _ (first-quiet c h) (le-ltb _ _ v))
+    (λ v. first-quiet c h)
+    (λ v. neither-or _ _ h (le-ltb _ _ v))
+    (λ v. neither-or _ _ h (le-ltb _ _ v))
 
-passes-above : (t : Tree) → limit < priority t → passes t ≡ true
-passes-above t h = true-unless (passes t) (λ f. let v : priority t ≤ limit = within t f in omega arith)
+loud : (bytes : List ℕ) (r : Record) (c : Chain) → somePasses c ≡ true → (k : ℕ) → k < 8 → 4 ≤ k → (k < 6 → passes (firstOf c) ≡ true) → passes (getD (shapes bytes r c) k empty) ≡ true
+unfolding passes
+loud bytes r c h =
+    by-kind (λ k. 4 ≤ k → (k < 6 → passes (firstOf c) ≡ true) → passes (getD (shapes bytes r c) k empty) ≡ true)
+    (λ l f. absurd (omega arith))
+    (λ l f. absurd (omega arith))
+    (λ l f. absurd (omega arith))
+    (λ l f. absurd (omega arith))
+    (λ l f. or-left _ _ (f (omega arith)))
+    (λ l f. f (omega arith))
+    (λ l f. or-left _ _ h)
+    (λ l f. or-left _ _ h)
 
 module _ (w bytes : List ℕ) (fits : treeFits w bytes ≡ true) where
   -- ---- no value above: nothing passes
@@ -103,7 +67,7 @@ module _ (w bytes : List ℕ) (fits : treeFits w bytes ≡ true) where
   module _ (low : (i : ℕ) → 0 < i → i ≤ count w → valueAt w bytes i ≤ limit) where
     tree-quiet : (i : ℕ) → 0 < i → i ≤ count w → somePasses (chainAt w bytes (recordOf w i .child)) ≡ false → passes (treeAt w bytes i) ≡ false
     unfolding treeAt treeOf valueAt
-    tree-quiet i p h q = quiet bytes (recordOf w i) (chainAt w bytes (recordOf w i .child)) (recordOf w i .kind) q (low i p h)
+    tree-quiet i p h q = quiet bytes (recordOf w i) (chainAt w bytes (recordOf w i .child)) q (recordOf w i .kind) (rules-of w bytes fits i p h .kind) (low i p h)
 
     chain-quiet : (k i : ℕ) → i ≤ k → i ≤ count w → somePasses (chainAt w bytes i) ≡ false
     unfolding somePasses chainAt
@@ -111,132 +75,82 @@ module _ (w bytes : List ℕ) (fits : treeFits w bytes ≡ true) where
     chain-quiet (suc k) i a h =
         zero-or i (λ e. rw e (ap somePasses (chain-none w bytes fits 0)))
         (λ p.
-        let c : recordOf w i .child < i = child-below w bytes fits i p h in
-        let n : recordOf w i .next < i = next-below w bytes fits i p h in
+        let rules = rules-of w bytes fits i p h in
         ap somePasses (chain-part w bytes fits i p h)
-        ∙ or-neither (passes (treeAt w bytes i)) (somePasses (chainAt w bytes (recordOf w i .next)))
-        (tree-quiet i p h (chain-quiet k (recordOf w i .child) (omega arith) (omega arith)))
-        (chain-quiet k (recordOf w i .next) (omega arith) (omega arith)))
+        ∙ neither-or (passes (treeAt w bytes i)) (somePasses (chainAt w bytes (recordOf w i .next)))
+        (tree-quiet i p h (chain-quiet k (recordOf w i .child) (omega (arith, rules .child)) (omega (arith, rules .child))))
+        (chain-quiet k (recordOf w i .next) (omega (arith, rules .next)) (omega (arith, rules .next))))
 
   -- ---- what passes below a record passes at the root
 
-  -- the chain of a record with no next
-  alone : (i : ℕ) → 0 < i → i ≤ count w → recordOf w i .next ≡ 0 → chainAt w bytes i ≡ part (treeAt w bytes i) done
-  unfolding chainAt
-  alone i p h e =
+  -- the chain of a record with no next passes where its tree does
+  alone : (i : ℕ) → 0 < i → i ≤ count w → recordOf w i .next ≡ 0 → somePasses (chainAt w bytes i) ≡ true → passes (treeAt w bytes i) ≡ true
+  unfolding chainAt somePasses
+  alone i p h e q =
       let rest : chainAt w bytes (recordOf w i .next) ≡ done = ap {B = Chain} (chainAt w bytes) e ∙ chain-none w bytes fits 0 in
-      chain-part w bytes fits i p h ∙ ap {B = Chain} (part (treeAt w bytes i)) rest
-
-  last-passes : (a : Bool) → (a || false) ≡ true → a ≡ true
-  last-passes true h = refl
-  last-passes false h = h
-
-  only-child : (d : ℕ) → d ≤ count w → (ltb 0 d && eqb (recordOf w d .next) 0) ≡ true → somePasses (chainAt w bytes d) ≡ true → passes (firstOf (chainAt w bytes d)) ≡ true
-  unfolding somePasses
-  only-child d h f q =
-      let both = and-both (ltb 0 d) (eqb (recordOf w d .next) 0) f in
-      let e = alone d (ltb-true _ _ (both .0)) h (eqb-true _ _ (both .1)) in
-      ap {B = Bool} (λ (c : Chain). passes (firstOf c)) e ∙ last-passes (passes (treeAt w bytes d)) (sym (ap somePasses e) ∙ q)
-
-  -- a chain that passes, under its holder
-  loud : (r : Record) (d k : ℕ) → 0 < d → d ≤ count w → k < 8 → childrenFit w (ruleOf k .children) d ≡ true → somePasses (chainAt w bytes d) ≡ true
-      → passes (getD (shapes bytes r (chainAt w bytes d)) k empty) ≡ true
-  unfolding passes ruleOf rules
-  loud r d zero p h b f q = let e : d ≡ 0 = eqb-true _ _ f in absurd (omega arith)
-  loud r d (suc zero) p h b f q = let e : d ≡ 0 = eqb-true _ _ f in absurd (omega arith)
-  loud r d (suc (suc zero)) p h b f q = let e : d ≡ 0 = eqb-true _ _ f in absurd (omega arith)
-  loud r d (suc (suc (suc zero))) p h b f q = let e : d ≡ 0 = eqb-true _ _ f in absurd (omega arith)
-  loud r d (suc (suc (suc (suc zero)))) p h b f q = or-left _ _ (only-child d h f q)
-  loud r d (suc (suc (suc (suc (suc zero))))) p h b f q = only-child d h f q
-  loud r d (suc (suc (suc (suc (suc (suc zero)))))) p h b f q = or-left _ _ q
-  loud r d (suc (suc (suc (suc (suc (suc (suc zero))))))) p h b f q = or-left _ _ q
-  loud r d (suc (suc (suc (suc (suc (suc (suc (suc k)))))))) p h b f q = absurd (omega arith)
+      let whole = chain-part w bytes fits i p h ∙ ap {B = Chain} (part (treeAt w bytes i)) rest in
+      sym (or-false (passes (treeAt w bytes i))) ∙ sym (ap somePasses whole) ∙ q
 
   -- if the tree of j passes, or the rest of its chain, so does its chain
   chain-loud : (j : ℕ) → 0 < j → j ≤ count w → (passes (treeAt w bytes j) || somePasses (chainAt w bytes (recordOf w j .next))) ≡ true → somePasses (chainAt w bytes j) ≡ true
   unfolding somePasses
   chain-loud j p h q = ap somePasses (chain-part w bytes fits j p h) ∙ q
 
-  by-child : (j i : ℕ) → 0 < i → 0 < j → j ≤ count w → recordOf w j .child ≡ i → somePasses (chainAt w bytes i) ≡ true → somePasses (chainAt w bytes j) ≡ true
+  by-child : (j : ℕ) → 0 < j → j ≤ count w → 0 < recordOf w j .child → somePasses (chainAt w bytes (recordOf w j .child)) ≡ true → somePasses (chainAt w bytes j) ≡ true
   unfolding treeAt treeOf
-  by-child j i pi pj h e q =
-      let b : recordOf w j .child < j = child-below w bytes fits j pj h in
-      let here : passes (treeAt w bytes j) ≡ true = loud (recordOf w j) (recordOf w j .child) (recordOf w j .kind) (omega arith) (omega arith) (kind-below w bytes fits j pj h) (children-fit w bytes fits j pj h) (rw e q) in
-      chain-loud j pj h (or-left _ _ here)
+  by-child j p h l q =
+      let r = recordOf w j in
+      let rules = rules-of w bytes fits j p h in
+      let down : r .child ≤ count w = omega (arith, rules .child) in
+      let tall : 4 ≤ r .kind = ⊎-elim (λ u. let e : r .child ≡ 0 = child-none w bytes fits j p h u in absurd (omega arith)) (λ u. u) (lt-or-le (r .kind) 4) in
+      let only : r .kind < 6 → passes (firstOf (chainAt w bytes (r .child))) ≡ true =
+      λ u. ap passes (first-child w bytes fits (r .child) l down) ∙ alone (r .child) l down (child-there w bytes fits j p h tall u .1) q in
+      chain-loud j p h (or-left _ _ (loud bytes r (chainAt w bytes (r .child)) q (r .kind) (rules .kind) tall only))
 
-  by-next : (j i : ℕ) → 0 < j → j ≤ count w → recordOf w j .next ≡ i → somePasses (chainAt w bytes i) ≡ true → somePasses (chainAt w bytes j) ≡ true
-  by-next j i pj h e q = chain-loud j pj h (or-right (passes (treeAt w bytes j)) _ (rw e q))
+  by-next : (j : ℕ) → 0 < j → j ≤ count w → somePasses (chainAt w bytes (recordOf w j .next)) ≡ true → somePasses (chainAt w bytes j) ≡ true
+  by-next j p h q = chain-loud j p h (or-right (passes (treeAt w bytes j)) _ q)
 
-  -- ---- refusal 10 once more: the root has next 0, every other record is named
+  -- a record that is named is named by a later one, as first child or as next
+  Namer : ℕ → Type 0
+  Namer i = (j : ℕ) × (0 < j) × (j ≤ count w) × ((recordOf w j .child ≡ i) ⊎ (recordOf w j .next ≡ i))
 
-  last-rules : (eqb (recordOf w (count w) .next) 0 ≡ true) × (allL (λ i. eqb i (count w) || leb 1 (named w i)) (numbers w) ≡ true)
-  unfolding treeFits
-  last-rules =
-      let a = and-both (leb (count w) 1024) _ (and-both (leb 1 (count w)) _ (and-both (eqb (length w % 6) 0) _ fits .1) .1) .1 in
-      let b = and-both (allL (recordFits w (length bytes)) (numbers w)) _ a .1 in
-      let c = and-both (allL (λ i. leb (named w i) 1) (numbers w)) _ b .1 in
-      and-both (eqb (recordOf w (count w) .next) 0) _ c
+  namer : (i : ℕ) → 1 ≤ named w i → Namer i
+  unfolding named Namer
+  namer i n =
+      zero-or (length (those (λ j. eqb (recordOf w j .child) i) (numbers w)))
+      (λ none. let (j, l, u, e) = counted-from (λ j. eqb (recordOf w j .next) i) (count w) 1 (omega arith) in (j, l, omega arith, inr (eqb-true _ _ e)))
+      (λ some. let (j, l, u, e) = counted-from (λ j. eqb (recordOf w j .child) i) (count w) 1 some in (j, l, omega arith, inl (eqb-true _ _ e)))
 
-  pub count-positive : 0 < count w
-  unfolding treeFits
-  count-positive = leb-true _ _ (and-both (leb 1 (count w)) _ (and-both (eqb (length w % 6) 0) _ fits .1) .0)
-
-  named-once : (i : ℕ) → 0 < i → i < count w → 1 ≤ named w i
-  named-once i p h =
-      let at = all-at (λ i. eqb i (count w) || leb 1 (named w i)) (numbers w) (i - 1) 0 (last-rules .1) (rw (length-tab 1 (count w) (λ (k : ℕ). k)) (omega arith)) in
-      let e : getD (numbers w) (i - 1) 0 ≡ i = getD-tab 1 (count w) (λ (k : ℕ). k) (i - 1) 0 (omega arith) ∙ omega arith in
-      leb-true _ _ (other (eqb i (count w)) (leb 1 (named w i)) (ne-eqb i (count w) (λ q. omega arith)) (rw e at at))
-    where
-      other : (a b : Bool) → a ≡ false → (a || b) ≡ true → b ≡ true
-      other true b f h = absurd (clash true refl f)
-      other false b f h = h
-
-  next-names : (i : ℕ) → 1 ≤ named w i → occurs i (map (λ j. recordOf w j .child) (numbers w)) ≡ 0 → 0 < occurs i (map (λ j. recordOf w j .next) (numbers w))
-  unfolding named
-  next-names i h e = omega arith
+  top : (i : ℕ) → i ≡ count w → somePasses (chainAt w bytes i) ≡ true → passes (root w bytes) ≡ true
+  unfolding root
+  top i e q = let rules = tree-rules w bytes fits in alone (count w) (rules .some) (omega arith) (rules .last) (rw e at q)
 
   climb : (d i : ℕ) → count w ≤ i + d → 0 < i → i ≤ count w → somePasses (chainAt w bytes i) ≡ true → passes (root w bytes) ≡ true
-  unfolding somePasses root
-  climb zero i a p h q =
-      let e : i ≡ count w = omega arith in
-      let c = alone (count w) count-positive (omega arith) (eqb-true _ _ (last-rules .0)) in
-      last-passes _ (sym (ap somePasses c) ∙ (rw e at q))
+  unfolding Namer
+  climb zero i a p h q = top i (omega arith) q
   climb (suc d) i a p h q =
       zero-or (count w - i)
-      (λ z. climb d i (omega arith) p h q)
+      (λ z. top i (omega arith) q)
       (λ z.
-      let n = named-once i p (omega arith) in
-      zero-or (occurs i (map (λ j. recordOf w j .child) (numbers w)))
-      (λ none.
-      let j = occurs-at (λ j. recordOf w j .next) i (count w) 1 (next-names i n none) in
-      let b : recordOf w (j .0) .next < j .0 = next-below w bytes fits (j .0) (omega (arith, j .1)) (omega (arith, j .2)) in
-      climb d (j .0) (omega (arith, j .3)) (omega (arith, j .1)) (omega (arith, j .2)) (by-next (j .0) i (omega (arith, j .1)) (omega (arith, j .2)) (j .3) q))
-      (λ some.
-      let j = occurs-at (λ j. recordOf w j .child) i (count w) 1 some in
-      let b : recordOf w (j .0) .child < j .0 = child-below w bytes fits (j .0) (omega (arith, j .1)) (omega (arith, j .2)) in
-      climb d (j .0) (omega (arith, j .3)) (omega (arith, j .1)) (omega (arith, j .2)) (by-child (j .0) i p (omega (arith, j .1)) (omega (arith, j .2)) (j .3) q)))
+      let (j, l, u, f) = namer i (named-by w bytes fits i p h (omega arith)) in
+      let rules = rules-of w bytes fits j l u in
+      ⊎-elim
+      (λ e. climb d j (omega (arith, rules .child)) l u (by-child j l u (rw e p) (rw e q)))
+      (λ e. climb d j (omega (arith, rules .next)) l u (by-next j l u (rw e q)))
+      f)
 
   pub too-high : tooHigh w bytes ≡ passes (root w bytes)
   unfolding tooHigh valueAt root somePasses
-  too-high = go (tooHigh w bytes) refl
+  too-high = go (is (tooHigh w bytes))
     where
-      go : (b : Bool) → tooHigh w bytes ≡ b → tooHigh w bytes ≡ passes (root w bytes)
-      go true e =
-          let i = above-some w bytes (count w) 1 e in
-          let h = chain-loud (i .0) (omega (arith, i .1)) (omega (arith, i .2)) (or-left _ _ (passes-above (treeAt w bytes (i .0)) (i .3))) in
-          e ∙ sym (climb (count w) (i .0) (omega arith) (omega (arith, i .1)) (omega (arith, i .2)) h)
-      go false e =
-          let low : (i : ℕ) → 0 < i → i ≤ count w → valueAt w bytes i ≤ limit = λ i p h. above-none w bytes (count w) 1 i e p (omega arith) in
+      go : Is (tooHigh w bytes) → tooHigh w bytes ≡ passes (root w bytes)
+      go (yes-is e) =
+          let (i, l, u, v) = some-from (λ i. ltb limit (valueAt w bytes i)) (count w) 1 e in
+          let h = chain-loud i l (omega arith) (or-left _ _ (passes-above (treeAt w bytes i) (ltb-true _ _ v))) in
+          e ∙ sym (climb (count w) i (omega arith) l (omega arith) h)
+      go (no-is e) =
+          let low : (i : ℕ) → 0 < i → i ≤ count w → valueAt w bytes i ≤ limit =
+          λ i p h. ltb-false _ _ (none-from (λ i. ltb limit (valueAt w bytes i)) (count w) 1 e i p (omega arith)) in
+          let some = tree-rules w bytes fits .some in
           let q = chain-quiet low (count w) (count w) (omega arith) (omega arith) in
-          let c = chain-part w bytes fits (count w) count-positive (omega arith) in
-          e ∙ sym (neither-of (passes (treeAt w bytes (count w))) _ (sym (ap somePasses c) ∙ q) .0)
-
-  -- ---- what the code asks and answers at the root
-
-  pub root-held : Within w bytes (length w / 6) × (0 < length w / 6)
-  unfolding count
-  root-held = (record { fits = fits; below = omega arith }, count-positive)
-
-  pub at-root : (x : Priced) → x ≡ priced (treeAt w bytes (length w / 6)) → x ≡ answer (tooHigh w bytes) (priority (root w bytes))
-  unfolding priced root count
-  at-root x e = e ∙ ap {B = Priced} (λ (b : Bool). answer b (priority (treeAt w bytes (length w / 6)))) (sym too-high)
+          e ∙ sym (or-neither (passes (treeAt w bytes (count w))) _ (sym (ap somePasses (chain-part w bytes fits (count w) some (omega arith))) ∙ q) .0)

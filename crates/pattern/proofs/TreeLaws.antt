@@ -1,18 +1,19 @@
 -- What a tree that fits has: indices below their holder, and the tree of a record from those of its children. Assumes nothing.
-use mathlib.Core.Path.{_≡_, refl, sym, ap, subst, _∙_}
-use mathlib.Core.Bool.{Bool, true, false, not, _||_}
+use mathlib.Core.Path.{_≡_, refl, sym, ap, _∙_}
+use mathlib.Core.Bool.{Bool, true, false, _&&_, _||_, false≢true}
 use mathlib.Core.List.{List}
-use Prim.Native.Nat.{ℕ, zero, suc, _+_, _-_, _*_, _%_, _<_, _≤_}
+use Prim.Native.Nat.{ℕ, zero, suc, _+_, _-_, _%_, _<_, _≤_}
 use native.Mathlib.Omega.{arith}
 use lib.Dec.{eqb, leb, ltb}
-use lib.ListN.{length, getD, take, drop}
-use borrow.Author.Tests.{eq-eqb, ne-eqb, ltb-true, leb-true}
+use lib.ListN.{length, take, drop}
+use borrow.Author.Tests.{eq-eqb, ne-eqb, ltb-true, leb-true, eqb-true}
 use Rattle.lists.specs.Lists.{allL}
 use Rattle.lists.proofs.Bools.{and-both}
-use Rattle.lists.proofs.Elements.{length-tab, getD-tab, all-at}
-use Rattle.pattern.specs.Tree.{Tree, Chain, empty, literal, class, look, repetition, capture, concat, alternation, done, part, firstOf, flag, count, recordOf, numbers, treeOf, chainFrom, chainAt, treeAt, one, rules, ruleOf, fieldsFit, indicesFit, childrenFit, literalFits, recordFits, treeFits}
-use Rattle.pattern.specs.Priced.{fieldOf}
-use lib.Seq.{getD-drop}
+use Rattle.lists.proofs.Disjunctions.{implied, or-other}
+use Rattle.lists.proofs.Intervals.{all-from}
+use Rattle.pattern.specs.Tree.{Tree, Chain, empty, literal, class, look, repetition, capture, concat, alternation, done, part, firstOf, flag, count, recordOf, numbers, treeOf, chainFrom, chainAt, treeAt, ruleOf, fieldsFit, indicesFit, childrenFit, literalFits, recordFits, named, treeFits}
+use Rattle.pattern.specs.declared.tree.Record.{Record}
+use Rattle.pattern.proofs.KindRules.{no-child, one-child}
 
 zero-of : (i : ℕ) → i ≤ 0 → i ≡ 0
 zero-of i h = omega arith
@@ -22,65 +23,85 @@ zero-or zero f g = f refl
 zero-or (suc i) f g = g (omega arith)
 
 not-zero : (t : Bool) (c : Chain) → t ≡ false → (elim t as (λ _. Chain) [ true ↦ done | false ↦ c ]) ≡ c
-not-zero true c e = let z : _≡_ {A = Bool} true false = e in absurd (let y : _≡_ {A = ℕ} 0 1 = cc in omega arith)
+not-zero true c e = absurd (false≢true (sym e))
 not-zero false c e = refl
 
+-- ---- the rules of a record, and of a tree, one by one
+
+pub record RecordRules (w : List ℕ) (size i : ℕ) (r : Record) : Type 0 where
+  pub kind : r .kind < 8
+  pub child : r .child < i
+  pub next : r .next < i
+  pub children : childrenFit w (ruleOf (r .kind) .children) (r .child) ≡ true
+  pub literal : literalFits size r ≡ true
+
+pub kind-fits : (r : Record) → fieldsFit r ≡ true → r .kind < 8
+unfolding fieldsFit
+kind-fits r h =
+    let k = ltb (r .kind) 8 in
+    let a = ruleOf (r .kind) .a || eqb (r .a) 0 in
+    let b = ruleOf (r .kind) .b || eqb (r .b) 0 in
+    ltb-true _ _ (and-both k a (and-both (k && a) b (and-both (k && a && b) _ h .0) .0) .0)
+
+pub record-rules : (w : List ℕ) (size i : ℕ) → recordFits w size i ≡ true → RecordRules w size i (recordOf w i)
+unfolding recordFits
+record-rules w size i h =
+    let r = recordOf w i in
+    let f = fieldsFit r in
+    let x = indicesFit i r in
+    let c = childrenFit w (ruleOf (r .kind) .children) (r .child) in
+    let fxc = and-both (f && x && c) _ h in
+    let fx = and-both (f && x) c (fxc .0) in
+    let both = and-both f x (fx .0) in
+    let lower = and-both (ltb (r .child) i) (ltb (r .next) i) (both .1) in
+    record { kind = kind-fits r (both .0); child = ltb-true _ _ (lower .0); next = ltb-true _ _ (lower .1); children = fx .1; literal = fxc .1 }
+
+pub record TreeRules (w : List ℕ) (size : ℕ) : Type 0 where
+  pub some : 1 ≤ count w
+  pub most : count w ≤ 1024
+  pub each : allL (recordFits w size) (numbers w) ≡ true
+  pub last : recordOf w (count w) .next ≡ 0
+  pub others : allL (λ i. eqb i (count w) || leb 1 (named w i)) (numbers w) ≡ true
+
+pub tree-rules : (w bytes : List ℕ) → treeFits w bytes ≡ true → TreeRules w (length bytes)
+unfolding treeFits
+tree-rules w bytes h =
+    let a = eqb (length w % 6) 0 && leb 1 (count w) in
+    let b = a && leb (count w) 1024 in
+    let c = b && allL (recordFits w (length bytes)) (numbers w) in
+    let d = c && allL (λ i. leb (named w i) 1) (numbers w) in
+    let e = d && eqb (recordOf w (count w) .next) 0 in
+    let he = and-both e _ h in
+    let hd = and-both d _ (he .0) in
+    let hc = and-both c _ (hd .0) in
+    let hb = and-both b _ (hc .0) in
+    let ha = and-both a _ (hb .0) in
+    record { some = leb-true _ _ (and-both (eqb (length w % 6) 0) _ (ha .0) .1); most = leb-true _ _ (ha .1); each = hb .1; last = eqb-true _ _ (hd .1); others = he .1 }
+
 module _ (w bytes : List ℕ) (fits : treeFits w bytes ≡ true) where
-  record-fits : (i : ℕ) → 0 < i → i ≤ count w → recordFits w (length bytes) i ≡ true
-  unfolding treeFits
-  record-fits i p h =
-      let all : allL (recordFits w (length bytes)) (numbers w) ≡ true =
-      and-both _ _ (and-both (leb (count w) 1024) _ (and-both (leb 1 (count w)) _ (and-both (eqb (length w % 6) 0) _ fits .1) .1) .1) .0 in
-      let at = all-at (recordFits w (length bytes)) (numbers w) (i - 1) 0 all (rw (length-tab 1 (count w) (λ (k : ℕ). k)) (omega arith)) in
-      let e : getD (numbers w) (i - 1) 0 ≡ i = getD-tab 1 (count w) (λ (k : ℕ). k) (i - 1) 0 (omega arith) ∙ omega arith in
-      subst (λ (k : ℕ). recordFits w (length bytes) k ≡ true) e at
+  module _ (i : ℕ) (p : 0 < i) (h : i ≤ count w) where
+    pub rules-of : RecordRules w (length bytes) i (recordOf w i)
+    rules-of = record-rules w (length bytes) i (all-from (recordFits w (length bytes)) (count w) 1 (tree-rules w bytes fits .each) i p (omega arith))
 
-  -- its four conditions
-  fits-of : (i : ℕ) → 0 < i → i ≤ count w
-      → (fieldsFit (recordOf w i) ≡ true) × (indicesFit i (recordOf w i) ≡ true) × (childrenFit w (ruleOf (recordOf w i .kind) .children) (recordOf w i .child) ≡ true) × (literalFits (length bytes) (recordOf w i) ≡ true)
-  unfolding recordFits
-  fits-of i p h =
-      let r = recordOf w i in
-      let a = and-both (fieldsFit r) _ (record-fits i p h) in
-      let b = and-both (indicesFit i r) _ (a .1) in
-      let c = and-both (childrenFit w (ruleOf (r .kind) .children) (r .child)) _ (b .1) in
-      (a .0, b .0, c .0, c .1)
+    pub literal-inside : recordOf w i .kind ≡ 1 → recordOf w i .a + recordOf w i .b ≤ length bytes
+    literal-inside e = leb-true _ _ (implied (eqb (recordOf w i .kind) 1) _ (rules-of .literal) (eq-eqb _ _ e))
 
-  pub children-fit : (i : ℕ) → 0 < i → i ≤ count w → childrenFit w (ruleOf (recordOf w i .kind) .children) (recordOf w i .child) ≡ true
-  children-fit i p h = fits-of i p h .2
+    -- kinds 0 to 3 have no child
+    pub child-none : recordOf w i .kind < 4 → recordOf w i .child ≡ 0
+    child-none u = eqb-true _ _ (rw (no-child (recordOf w i .kind) (rules-of .kind) u) at (rules-of .children))
 
-  pub kind-below : (i : ℕ) → 0 < i → i ≤ count w → recordOf w i .kind < 8
-  unfolding fieldsFit
-  kind-below i p h = ltb-true _ _ (and-both (ltb (recordOf w i .kind) 8) _ (fits-of i p h .0) .0)
+    -- repetition and capture have one, alone
+    pub child-there : 4 ≤ recordOf w i .kind → recordOf w i .kind < 6 → (0 < recordOf w i .child) × (recordOf w (recordOf w i .child) .next ≡ 0)
+    child-there l u =
+        let d = recordOf w i .child in
+        let both = and-both (ltb 0 d) _ (rw (one-child (recordOf w i .kind) (rules-of .kind) l u) at (rules-of .children)) in
+        (ltb-true _ _ (both .0), eqb-true _ _ (both .1))
 
-  pub child-below : (i : ℕ) → 0 < i → i ≤ count w → recordOf w i .child < i
-  unfolding indicesFit
-  child-below i p h = ltb-true _ _ (and-both (ltb (recordOf w i .child) i) _ (fits-of i p h .1) .0)
-
-  pub next-below : (i : ℕ) → 0 < i → i ≤ count w → recordOf w i .next < i
-  unfolding indicesFit
-  next-below i p h = ltb-true _ _ (and-both (ltb (recordOf w i .child) i) _ (fits-of i p h .1) .1)
-
-  literal-at : (k : ℕ) (b : Bool) → k ≡ 1 → (not (eqb k 1) || b) ≡ true → b ≡ true
-  literal-at k b e h = rw (eq-eqb k 1 e) at h
-
-  pub literal-inside : (i : ℕ) → 0 < i → i ≤ count w → recordOf w i .kind ≡ 1 → recordOf w i .a + recordOf w i .b ≤ length bytes
-  unfolding literalFits
-  literal-inside i p h e = leb-true _ _ (literal-at (recordOf w i .kind) _ e (fits-of i p h .3))
-
-  one-child : (k : ℕ) (d : ℕ) → ruleOf k .children ≡ one → childrenFit w (ruleOf k .children) d ≡ true → 0 < d
-  one-child k d e h = ltb-true _ _ (and-both (ltb 0 d) _ (rw e at h) .0)
-
-  pub child-there : (i : ℕ) → 0 < i → i ≤ count w → ruleOf (recordOf w i .kind) .children ≡ one → 0 < recordOf w i .child
-  child-there i p h e = one-child (recordOf w i .kind) (recordOf w i .child) e (fits-of i p h .2)
-
-  pub repetition-child : (i : ℕ) → 0 < i → i ≤ count w → recordOf w i .kind ≡ 4 → 0 < recordOf w i .child
-  unfolding ruleOf rules
-  repetition-child i p h e = child-there i p h (rw e)
-
-  pub capture-child : (i : ℕ) → 0 < i → i ≤ count w → recordOf w i .kind ≡ 5 → 0 < recordOf w i .child
-  unfolding ruleOf rules
-  capture-child i p h e = child-there i p h (rw e)
+    -- every record but the last is named
+    pub named-by : i < count w → 1 ≤ named w i
+    named-by u =
+        leb-true _ _ (or-other (eqb i (count w)) _ (ne-eqb i (count w) (λ q. omega arith))
+        (all-from (λ i. eqb i (count w) || leb 1 (named w i)) (count w) 1 (tree-rules w bytes fits .others) i p (omega arith)))
 
   -- ---- a chain, whatever its bound
 
@@ -102,8 +123,8 @@ module _ (w bytes : List ℕ) (fits : treeFits w bytes ≡ true) where
       zero-or i (λ e. rw e (chain-none (suc k) ∙ sym (chain-none (suc m))))
       (λ p.
       let r = recordOf w i in
-      let c : r .child < i = child-below i p h in
-      let n : r .next < i = next-below i p h in
+      let c : r .child < i = rules-of i p h .child in
+      let n : r .next < i = rules-of i p h .next in
       chain-step k i p
       ∙ ap {B = Chain} (λ (x : Chain). part (treeOf bytes r x) (chainFrom w bytes k (r .next))) (deep-enough k m (r .child) (omega arith) (omega arith) (omega arith))
       ∙ ap {B = Chain} (λ (x : Chain). part (treeOf bytes r (chainFrom w bytes m (r .child))) x) (deep-enough k m (r .next) (omega arith) (omega arith) (omega arith))
@@ -115,60 +136,50 @@ module _ (w bytes : List ℕ) (fits : treeFits w bytes ≡ true) where
   chain-part (suc k) p h =
       let i = suc k in
       let r = recordOf w i in
-      let c : r .child < suc k = child-below (suc k) p h in
-      let n : r .next < suc k = next-below (suc k) p h in
+      let c : r .child < suc k = rules-of (suc k) p h .child in
+      let n : r .next < suc k = rules-of (suc k) p h .next in
       chain-step k (suc k) p
       ∙ ap {B = Chain} (λ (x : Chain). part (treeOf bytes r x) (chainFrom w bytes k (r .next))) (deep-enough k (r .child) (r .child) (omega arith) (omega arith) (omega arith))
       ∙ ap {B = Chain} (λ (x : Chain). part (treeOf bytes r (chainFrom w bytes (r .child) (r .child))) x) (deep-enough k (r .next) (r .next) (omega arith) (omega arith) (omega arith))
 
-  -- ---- a record's tree, by its kind
+  pub first-child : (i : ℕ) → 0 < i → i ≤ count w → firstOf (chainAt w bytes i) ≡ treeAt w bytes i
+  first-child i p h = ap {B = Tree} firstOf (chain-part i p h)
 
-  module _ (i : ℕ) where
-    pub tree-literal : recordOf w i .kind ≡ 1 → treeAt w bytes i ≡ literal (take (recordOf w i .b) (drop (recordOf w i .a) bytes))
-    unfolding treeAt treeOf
-    tree-literal e = rw e
+-- ---- a record's tree, by its kind
 
-    pub tree-class : recordOf w i .kind ≡ 2 → treeAt w bytes i ≡ class (flag 1 (recordOf w i .flags))
-    unfolding treeAt treeOf
-    tree-class e = rw e
+pub tree-at : (w bytes : List ℕ) (i : ℕ) (r : Record) → r ≡ recordOf w i → treeAt w bytes i ≡ treeOf bytes r (chainAt w bytes (r .child))
+unfolding treeAt
+tree-at w bytes i r e = rw e
 
-    pub tree-concat : recordOf w i .kind ≡ 6 → treeAt w bytes i ≡ concat (chainAt w bytes (recordOf w i .child))
-    unfolding treeAt treeOf
-    tree-concat e = rw e
+module _ (bytes : List ℕ) (r : Record) (c : Chain) where
+  pub tree-empty : r .kind ≡ 0 → treeOf bytes r c ≡ empty
+  unfolding treeOf
+  tree-empty e = rw e
 
-    pub tree-alternation : recordOf w i .kind ≡ 7 → treeAt w bytes i ≡ alternation (chainAt w bytes (recordOf w i .child))
-    unfolding treeAt treeOf
-    tree-alternation e = rw e
+  pub tree-literal : r .kind ≡ 1 → treeOf bytes r c ≡ literal (take (r .b) (drop (r .a) bytes))
+  unfolding treeOf
+  tree-literal e = rw e
 
-    module _ (p : 0 < i) (h : i ≤ count w) (there : 0 < recordOf w i .child) where
-      first-child : firstOf (chainAt w bytes (recordOf w i .child)) ≡ treeAt w bytes (recordOf w i .child)
-      first-child = ap {B = Tree} firstOf (chain-part (recordOf w i .child) there (let c : recordOf w i .child < i = child-below i p h in omega arith))
+  pub tree-class : r .kind ≡ 2 → treeOf bytes r c ≡ class (flag 1 (r .flags))
+  unfolding treeOf
+  tree-class e = rw e
 
-      pub tree-repetition : recordOf w i .kind ≡ 4
-          → treeAt w bytes i ≡ repetition (recordOf w i .a) (flag 1 (recordOf w i .flags)) (flag 2 (recordOf w i .flags)) (treeAt w bytes (recordOf w i .child))
-      unfolding treeAt treeOf
-      tree-repetition e = rw e (ap {B = Tree} (repetition (recordOf w i .a) (flag 1 (recordOf w i .flags)) (flag 2 (recordOf w i .flags))) first-child)
+  pub tree-look : r .kind ≡ 3 → treeOf bytes r c ≡ look
+  unfolding treeOf
+  tree-look e = rw e
 
-      pub tree-capture : recordOf w i .kind ≡ 5 → treeAt w bytes i ≡ capture (treeAt w bytes (recordOf w i .child))
-      unfolding treeAt treeOf
-      tree-capture e = rw e (ap {B = Tree} capture first-child)
+  pub tree-repetition : r .kind ≡ 4 → treeOf bytes r c ≡ repetition (r .a) (flag 1 (r .flags)) (flag 2 (r .flags)) (firstOf c)
+  unfolding treeOf
+  tree-repetition e = rw e
 
-    pub tree-empty : recordOf w i .kind ≡ 0 → treeAt w bytes i ≡ empty
-    unfolding treeAt treeOf
-    tree-empty e = rw e
+  pub tree-capture : r .kind ≡ 5 → treeOf bytes r c ≡ capture (firstOf c)
+  unfolding treeOf
+  tree-capture e = rw e
 
-    pub tree-look : recordOf w i .kind ≡ 3 → treeAt w bytes i ≡ look
-    unfolding treeAt treeOf
-    tree-look e = rw e
+  pub tree-concat : r .kind ≡ 6 → treeOf bytes r c ≡ concat c
+  unfolding treeOf
+  tree-concat e = rw e
 
--- ---- a record's fields, in the words
-
-pub field-at : (w : List ℕ) (i f : ℕ) → f < 6 → fieldOf (recordOf w i) f ≡ getD w (6 * (i - 1) + f) 0
-unfolding recordOf
-field-at w i zero h = getD-drop (6 * (i - 1)) w 0 0
-field-at w i (suc zero) h = getD-drop (6 * (i - 1)) w 1 0
-field-at w i (suc (suc zero)) h = getD-drop (6 * (i - 1)) w 2 0
-field-at w i (suc (suc (suc zero))) h = getD-drop (6 * (i - 1)) w 3 0
-field-at w i (suc (suc (suc (suc zero)))) h = getD-drop (6 * (i - 1)) w 4 0
-field-at w i (suc (suc (suc (suc (suc zero))))) h = getD-drop (6 * (i - 1)) w 5 0
-field-at w i (suc (suc (suc (suc (suc (suc f)))))) h = absurd (omega arith)
+  pub tree-alternation : r .kind ≡ 7 → treeOf bytes r c ≡ alternation c
+  unfolding treeOf
+  tree-alternation e = rw e

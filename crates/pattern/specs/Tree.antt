@@ -1,23 +1,16 @@
 -- A pattern tree (document 01, "Priorities"): its records, the tree that they stand for, and refusal 10.
 -- Definitions only. They are total: of records that are refused, the tree means nothing.
 use mathlib.Core.Bool.{Bool, true, false, not, _&&_, _||_}
-use mathlib.Core.List.{List, [], _∷_, map}
+use mathlib.Core.List.{List, [], _∷_}
 use Prim.Native.Nat.{ℕ, zero, suc, _+_, _*_, _-_, _/_, _%_}
 use lib.Dec.{eqb, leb, ltb}
 use lib.ListN.{length, getD, take, drop}
-use Rattle.lists.specs.Lists.{tab, allL}
+use Rattle.lists.specs.Lists.{tab, allL, those}
+use Rattle.pattern.specs.declared.tree.Record.{Record}
 
 -- ---- the words: six a record. Records are numbered from 1; the number 0 names none
 
-pub record Record : Type 0 where
-  pub kind : ℕ
-  pub a : ℕ
-  pub b : ℕ
-  pub flags : ℕ
-  pub child : ℕ  -- the first child; 0: there is none
-  pub next : ℕ  -- the next in the chain of children; 0: the chain ends
-
-unfoldable pub count : List ℕ → ℕ
+abbrev pub count : List ℕ → ℕ
 count w = length w / 6
 
 -- record number i
@@ -51,6 +44,7 @@ abbrev pub firstOf : Chain → Tree
 firstOf done = empty
 firstOf (part t c) = t
 
+-- flag f, 1 or 2
 abbrev pub flag : ℕ → ℕ → Bool
 flag f flags = eqb (flags / f % 2) 1
 
@@ -119,11 +113,13 @@ ruleOf kind = getD rules kind (rule false false 0 no)
 -- "Every other field or flag is 0."
 unfoldable pub fieldsFit : Record → Bool
 fieldsFit r =
-    let u = ruleOf (r .kind) in
-    ltb (r .kind) 8 && ((u .a || eqb (r .a) 0) && ((u .b || eqb (r .b) 0) && leb (r .flags) (u .flags)))
+    ltb (r .kind) 8
+    && (ruleOf (r .kind) .a || eqb (r .a) 0)
+    && (ruleOf (r .kind) .b || eqb (r .b) 0)
+    && leb (r .flags) (ruleOf (r .kind) .flags)
 
 -- "Indices are below the holder's number"
-unfoldable pub indicesFit : ℕ → Record → Bool
+abbrev pub indicesFit : ℕ → Record → Bool
 indicesFit i r = ltb (r .child) i && ltb (r .next) i
 
 -- "Repetition and capture have one child, kinds 0 to 3 none."
@@ -133,27 +129,26 @@ childrenFit w one child = ltb 0 child && eqb (recordOf w child .next) 0
 childrenFit w any child = true
 
 -- "a literal passes its bytes"
-unfoldable pub literalFits : ℕ → Record → Bool
+abbrev pub literalFits : ℕ → Record → Bool
 literalFits size r = not (eqb (r .kind) 1) || leb (r .a + r .b) size
 
+-- record i, over this many bytes
 unfoldable pub recordFits : List ℕ → ℕ → ℕ → Bool
 recordFits w size i =
     let r = recordOf w i in
-    fieldsFit r && (indicesFit i r && (childrenFit w (ruleOf (r .kind) .children) (r .child) && literalFits size r))
+    fieldsFit r && indicesFit i r && childrenFit w (ruleOf (r .kind) .children) (r .child) && literalFits size r
 
--- how often the records name number i, as first child or as next
-abbrev pub occurs : ℕ → List ℕ → ℕ
-occurs i [] = 0
-occurs i (x ∷ l) = elim (eqb x i) [ true ↦ suc (occurs i l) | false ↦ occurs i l ]
-
+-- how often number i is named: by the records whose first child it is, and by those whose next it is
 unfoldable pub named : List ℕ → ℕ → ℕ
-named w i = occurs i (map (λ j. recordOf w j .child) (numbers w)) + occurs i (map (λ j. recordOf w j .next) (numbers w))
+named w i =
+    length (those (λ j. eqb (recordOf w j .child) i) (numbers w)) + length (those (λ j. eqb (recordOf w j .next) i) (numbers w))
 
 unfoldable pub treeFits : List ℕ → List ℕ → Bool
 treeFits w bytes =
-    let n = count w in
-    eqb (length w % 6) 0 && (leb 1 n && (leb n 1024 &&  -- "a part record, or 0 or over 1,024 records"
-    (allL (recordFits w (length bytes)) (numbers w) &&
-    (allL (λ i. leb (named w i) 1) (numbers w) &&  -- "no record is named twice"
-    (eqb (recordOf w n .next) 0 &&  -- "the root has next 0"
-    allL (λ i. eqb i n || leb 1 (named w i)) (numbers w))))))  -- "every other record is named"
+    eqb (length w % 6) 0  -- "a part record"
+    && leb 1 (count w)  -- "0 or over 1,024 records"
+    && leb (count w) 1024
+    && allL (recordFits w (length bytes)) (numbers w)
+    && allL (λ i. leb (named w i) 1) (numbers w)  -- "no record is named twice"
+    && eqb (recordOf w (count w) .next) 0  -- "the root has next 0"
+    && allL (λ i. eqb i (count w) || leb 1 (named w i)) (numbers w)  -- "every other record is named"

@@ -3,4 +3,7 @@ pub mod Buffers
 pub mod Steps
 pub mod Children
 pub mod Marking
+pub mod Edges
 pub mod Parents
+pub mod BitRows
+pub mod Backward

@@ -16,7 +16,8 @@ use Rattle.lists.proofs.Sorted.{total, sorted-total, sorted-length}
 use Rattle.rules.specs.Table.{Table, tableOf, size, matchOf, refusal}
 use Rattle.rules.specs.Build.{contenders, Error, disambiguation, errorWords, ties}
 use Rattle.rules.proofs.Shape.{size-is}
-use Rattle.table.specs.Chains.{topOf, nextTied, tieFrom, tiedAt}
+use Rattle.table.specs.Chains.{topOf, nextTied, tieFrom}
+use Rattle.table.specs.Slots.{tiedAt}
 use Rattle.table.proofs.Contenders.{contenders-top, tie-end, tie-step, next-tied-low, top-low}
 
 -- ---- a state that is tied

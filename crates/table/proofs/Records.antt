@@ -64,7 +64,7 @@ module _ (w : List ℕ) (legal : refusal w ≡ 0) where
       ap (λ (x : ℕ). matchFits (tableOf w) (suc x)) (sym (getD-tab0 (getD w 3 0) (λ x. x) i 0 h))
       ∙ all-at (λ i. matchFits (tableOf w) (suc i)) (below (getD w 3 0)) i 0 matches-fit (rw (length-tab 0 (getD w 3 0) (λ x. x)) h)
 
-  leaves-are : length (tableOf w .leaves) ≡ getD w 2 0
+  pub leaves-are : length (tableOf w .leaves) ≡ getD w 2 0
   unfolding tableOf
   leaves-are = length-map (pieces 3 (getD w 2 0) (drop 4 w)) _ ∙ pieces-length 3 (getD w 2 0) (drop 4 w)
 

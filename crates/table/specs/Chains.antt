@@ -1,13 +1,13 @@
 -- Match chains by their records (rule 3): what the functions that walk a chain answer. That a state's contenders are the tie that begins at its top
 -- record, and that a tie goes on at its next record, is in proofs/Contenders. Definitions only.
 use mathlib.Core.List.{List, [], _∷_, map}
-use mathlib.Core.Bool.{Bool, true, false}
+use mathlib.Core.Bool.{true, false}
 use Prim.Native.Nat.{ℕ, zero, suc}
-use lib.Dec.{eqb, leb}
-use lib.ListN.{length, getD}
-use Rattle.lists.specs.Lists.{those, before}
+use lib.Dec.{eqb}
+use lib.ListN.{getD}
+use Rattle.lists.specs.Lists.{those}
 use Rattle.rules.specs.Table.{Table, rowOf, leafAt, matchOf}
-use Rattle.rules.specs.Build.{highest, contenders}
+use Rattle.rules.specs.Build.{highest}
 
 -- the numbers of the records of the chain from record i, with at most k records
 abbrev pub recordsFrom : Table → ℕ → ℕ → List ℕ
@@ -41,12 +41,3 @@ nextTied t i = firstWith t (priorityAt t i) (matchOf t i .next)
 -- the leaves of the chain from record i that have the priority of its first
 unfoldable pub tieFrom : Table → ℕ → List ℕ
 tieFrom t i = map (λ j. matchOf t j .leaf) (those (λ j. eqb (priorityAt t j) (priorityAt t i)) (records t i))
-
--- the record where a state's tie begins; 0: it has none
-unfoldable pub tiedAt : Table → ℕ → ℕ
-tiedAt t s = elim (leb 2 (length (contenders t s))) [ true ↦ topOf t s | false ↦ 0 ]
-
--- how many of a list's elements stand before the first that a comes before
-abbrev pub slot : List ℕ → List (List ℕ) → ℕ
-slot a [] = 0
-slot a (b ∷ l) = elim (before a b) [ true ↦ 0 | false ↦ suc (slot a l) ]

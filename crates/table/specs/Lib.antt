@@ -1,2 +1,4 @@
 pub mod Conditions
 pub mod Chains
+pub mod Slots
+pub mod Listed

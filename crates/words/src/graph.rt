@@ -1,7 +1,9 @@
 // Where the words of a graph stand.
 ghost use mathlib.Core.Path.{_≡_};
 ghost use Prim.Native.Nat.{_<_, _≤_, _+_, _*_};
+ghost use mathlib.Core.List.{[], _∷_};
 ghost use lib.ListN.{length, getD, drop};
+ghost use lib.Seq.{sets};
 ghost use Rattle.lists.specs.Lists.{allL, pieces};
 ghost use Rattle.rules.specs.Graph.{targetFits, rowFits, graphFits};
 ghost use Rattle.words.specs.Places.{graphPlace};
@@ -76,4 +78,13 @@ pub fn word(graph: &[u16], s: usize, c: usize) -> usize
     ensures { λ r. ⌜ (r ≡ getD (now (graph .entry)) (graphPlace s c) 0) × (r < 65536) ⌝ }
 {
     crate::word(graph, place(s, c))
+}
+
+// The number of states and the root become these.
+pub fn set_head(graph: &mut [u16], states: u16, root: u16)
+    requires { ⌜ 2 ≤ length (now graph) ⌝ }
+    ensures { λ _. ⌜ now (graph .exit) ≡ sets (now (graph .entry)) 0 (states ∷ (root ∷ [])) ⌝ }
+{
+    graph[0] = states;
+    graph[1] = root;
 }

@@ -8,8 +8,9 @@
 // words a leaf: priority low half, high half, 1 if it can match empty text. Then 258 words a state: the targets of the bytes 0 to 255, the end
 // target, the head of its match chain. Then two words a match record, numbered from 1: leaf, next.
 ghost use mathlib.Core.Path.{_≡_};
-ghost use Prim.Native.Nat.{_<_};
-ghost use lib.ListN.{length, getD};
+ghost use Prim.Native.Nat.{_<_, _≤_, _-_};
+ghost use lib.ListN.{length, getD, replicate};
+ghost use lib.Seq.{sets};
 
 pub mod graph;
 pub mod table;
@@ -20,4 +21,17 @@ pub fn word(words: &[u16], i: usize) -> usize
     ensures { λ r. ⌜ (r ≡ getD (now (words .entry)) i 0) × (r < 65536) ⌝ }
 {
     words[i] as usize
+}
+
+// The words from a up to b become 0.
+pub fn zero(words: &mut [u16], a: usize, b: usize)
+    requires { ⌜ a ≤ b ⌝ }
+    requires { ⌜ b ≤ length (now words) ⌝ }
+    ensures { λ _. ⌜ now (words .exit) ≡ sets (now (words .entry)) a (replicate (b - a) 0) ⌝ }
+{
+    let mut i = a;
+    while i < b {
+        words[i] = 0;
+        i += 1;
+    }
 }

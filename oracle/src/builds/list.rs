@@ -26,6 +26,18 @@ fn k14() -> Table {
     table
 }
 
+/// Ties of several leaves on states that the start leads to in another order than the errors are sorted in.
+fn ties() -> Table {
+    let mut table = k1(4);
+    let chains: [&[usize]; 8] = [&[0, 1, 2], &[2, 3], &[0, 2], &[0, 1], &[0, 1, 2, 3], &[1, 3], &[0, 1], &[3]];
+    for (number, chain) in chains.iter().enumerate() {
+        let head = table.chain(chain);
+        table.states.push(State { head, ..State::dead() });
+        table.states[1].targets[usize::from(b'b') + number] = 4 + number as u16;
+    }
+    table
+}
+
 /// So many states, each leading to the next by every byte.
 fn one_after_another(states: usize) -> Table {
     let mut table = k1(1);
@@ -38,7 +50,7 @@ fn one_after_another(states: usize) -> Table {
 
 /// Tables in which each rule of the build is decided by one word.
 fn single_words() -> Vec<Table> {
-    let mut tables = vec![k1(1), k1(2), k1(0), k14()];
+    let mut tables = vec![k1(1), k1(2), k1(0), k14(), k1(255), ties()];
     let mut changed = |change: &dyn Fn(&mut Table)| {
         let mut table = k1(1);
         change(&mut table);
@@ -72,6 +84,13 @@ fn single_words() -> Vec<Table> {
     changed(&|table| {
         table.leaves = [true, false, true].map(|empty| Leaf { priority: 2, empty }).to_vec();
     });
+    // the last or the first of 255 leaves is the best
+    for best in [0, 254] {
+        changed(&|table| {
+            *table = k1(255);
+            table.leaves[best].priority = 65_536;
+        });
+    }
     // priorities that differ in one half only
     for priority in [3, 65_538, 0] {
         changed(&|table| {
@@ -180,12 +199,12 @@ fn store(stored: &mut Stored, case: &Case) {
 }
 
 /// The list, with these images among its tables.
-pub fn list(images: &[Vec<u16>]) -> Vec<u8> {
+pub fn list(images: &[(Vec<u16>, Vec<u8>)]) -> Vec<u8> {
     let mut stored = Stored::default();
     let mut random = Random::new(6);
     let mut tables = single_words().iter().map(Table::words).collect::<Vec<_>>();
     tables.extend(large(&mut random));
-    tables.extend(images.iter().cloned());
+    tables.extend(images.iter().map(|(image, _)| image.clone()));
     tables.extend((0..120).map(|round| within(500, || wild(&mut random, 2 + round % 9))));
     tables.extend((0..10).map(|_| within(1500, || wild(&mut random, 40))));
     tables.extend((0..3).map(|_| dense(&mut random, 6).words()));

@@ -117,7 +117,7 @@ pub fn layered(random: &mut Random, states: usize) -> Table {
         table.states[place(at)] = state;
     }
     let reached = last.min(256);
-    table.states[place(last)].targets = std::array::from_fn(|byte| place(last - 1 - byte % reached) as u16);
+    table.states[place(last)].targets = std::array::from_fn(|byte| place(last - 1 - byte * reached / 256) as u16);
     table.start = place(last) as u16;
     table
 }

@@ -1,15 +1,13 @@
 -- The sum over the comparisons. The invariant: the sum so far, with the cost of those from i on, is the whole. The measure is what is left of the
 -- comparisons. Assumes nothing.
 use borrow.Author.Needs.{needs}
-use mathlib.Core.Path.{_≡_, refl}
+use mathlib.Core.Path.{_≡_}
 use mathlib.Core.List.{[]}
 use Prim.Native.Nat.{_+_, _-_, _*_, _≤_}
 use native.Mathlib.Omega.{arith}
-use lib.ListN.{length, getD, drop, drop-of-length-le}
-use mir.Syntax.{w8}
-use mir.Val.{Fits}
+use lib.ListN.{drop, drop-of-length-le}
 use Rattle.classes.specs.Classes.{comparisons, cost, sumOps}
-use Rattle.classes.proofs.Costs.{ops-few, laid-count, sum-next}
+use Rattle.classes.proofs.Answers.{laid-count, sum-next}
 use Rattle.classes.proofs.byte_class.cost.Statement.{statement}
 use Rattle.classes.proofs.byte_class.cost.Tie as tie
 
@@ -19,14 +17,6 @@ Inv-loop class cmp n sum₀ i₀ sum i =
 
 abbrev μ-loop : tie.MeasureT-loop
 μ-loop class cmp n sum₀ i₀ sum i = n - i
-
-one-comparison : (c : tie.After-count-ops Inv-loop μ-loop) → c .count-ops .result ≤ 257
-one-comparison c =
-    let at = c .before .before .before .before .before in
-    let laid = at .before .impl-with-cmp .result in
-    let i = at .loop .i in
-    let byte : Fits w8 (getD (laid .holes) i 0) = search needs in
-    omega (arith, c .count-ops .ensures, ops-few (getD (laid .first) i 0) (getD (laid .last) i 0) (getD (laid .holes) i 0))
 
 impl-with-cmp-requires : tie.Need-impl-with-cmp-requires Inv-loop μ-loop
 impl-with-cmp-requires c κs = search needs
@@ -47,7 +37,7 @@ count-ops-requires : tie.Need-count-ops-requires Inv-loop μ-loop
 count-ops-requires c κs = search needs
 
 add-sum : tie.Need-add-sum Inv-loop μ-loop
-add-sum c = omega (arith, one-comparison c)
+add-sum c = search needs
 
 add-i : tie.Need-add-i Inv-loop μ-loop
 add-i c = search needs
@@ -58,8 +48,7 @@ loop-less c = search needs
 loop-again : tie.Need-loop-again Inv-loop μ-loop
 loop-again c =
     let at = c .before .before .before .before .before in
-    let few = one-comparison c in
-    (omega arith, omega arith, omega arith, omega (arith, c .count-ops .ensures, sum-next (comparisons (at .before .before .args .class .now)) (at .before .impl-with-cmp .ensures .0) (at .loop .i) (omega arith)))
+    (omega arith, omega arith, omega arith, omega (arith, c .count-ops .ensures .0, sum-next (comparisons (at .before .before .args .class .now)) (at .before .impl-with-cmp .ensures .0) (at .loop .i) (omega arith)))
 
 returns : tie.Need-returns Inv-loop μ-loop
 unfolding cost

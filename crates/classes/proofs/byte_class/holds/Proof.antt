@@ -20,10 +20,14 @@ abbrev μ-loop : tie.MeasureT-loop
 μ-loop first last except byte j₀ j-end j = length except - j
 
 returns : tie.Need-returns Inv-loop μ-loop
-returns c = rw (lt-leb _ _ (c .if1 .taken))
+returns c =
+    let given = c .before .args in
+    rw (lt-leb (given .first) (given .byte) (omega arith))
 
 returns-2 : tie.Need-returns-2 Inv-loop μ-loop
-returns-2 c = rw (le-leb _ _ (c .before .if1 .left), lt-leb _ _ (c .if2 .taken))
+returns-2 c =
+    let given = c .before .before .args in
+    rw (le-leb (given .first) (given .byte) (omega arith), lt-leb (given .byte) (given .last) (omega arith))
 
 loop-holds : tie.Need-loop-holds Inv-loop μ-loop
 loop-holds c = (search needs, refl, refl)
@@ -37,7 +41,7 @@ returns-3 c =
     let given = at .before .before .before .args in
     let x : excepted (given .except .now) (given .byte) ≡ true
     = at .loop .inv .2 ∙ excepted-found (given .except .now) (given .byte) (at .loop .j) (omega arith) (c .if3 .taken) in
-    rw (le-leb _ _ (at .before .before .if1 .left), le-leb _ _ (at .before .if2 .left), x)
+    rw (le-leb (given .first) (given .byte) (omega arith), le-leb (given .byte) (given .last) (omega arith), x)
 
 add-j : tie.Need-add-j Inv-loop μ-loop
 add-j c = search needs
@@ -57,7 +61,7 @@ returns-4 c =
     let given = at .before .before .before .args in
     let x : excepted (given .except .now) (given .byte) ≡ false
     = at .loop .inv .2 ∙ excepted-none (given .except .now) (given .byte) (at .loop .j) (omega arith) in
-    rw (le-leb _ _ (at .before .before .if1 .left), le-leb _ _ (at .before .if2 .left), x)
+    rw (le-leb (given .first) (given .byte) (omega arith), le-leb (given .byte) (given .last) (omega arith), x)
 
 pub holds-spec : {M : Type 1} → statement M
 holds-spec =

@@ -4,13 +4,13 @@ use borrow.Author.Needs.{needs}
 use mathlib.Core.Logic.{⊎-elim}
 use mathlib.Core.Path.{_≡_}
 use mathlib.Core.List.{_∷_}
-use Prim.Native.Nat.{suc, _+_, _-_, _≤_, _<_}
+use Prim.Native.Nat.{suc, _-_, _≤_}
 use native.Mathlib.Omega.{arith}
-use lib.ListN.{length, getD, drop}
+use lib.ListN.{getD, drop}
 use mir.Syntax.{w8}
 use mir.Val.{Fits}
 use Rattle.classes.specs.Classes.{Range, ranges, comparisons}
-use Rattle.classes.proofs.FlagPass.{held-count, held-next}
+use Rattle.classes.proofs.Answers.{held-count, held-next}
 use Rattle.classes.proofs.Joining.{Joining, joining-none, joining-alone, joining-latest, joining-longer, joining-end}
 use Rattle.classes.proofs.byte_class.impl_with_cmp.Statement.{statement}
 use Rattle.classes.proofs.byte_class.impl_with_cmp.Tie as tie
@@ -22,15 +22,26 @@ Inv-loop class held first₀ last₀ holes₀ except₀ count₀ gaps₀ end₀ 
 abbrev μ-loop : tie.MeasureT-loop
 μ-loop class held first₀ last₀ holes₀ except₀ count₀ gaps₀ end₀ n i₀ first last holes except count gaps end i = n - i
 
+-- range i
+abbrev this : tie.After-upto Inv-loop μ-loop → Range
+this c =
+    let at = c .before .before .before in
+    let held = at .before .ranges .result in
+    record { first = getD (held .first) (at .loop .i) 0; last = getD (held .last) (at .loop .i) 0 }
+
+next : (c : tie.After-upto Inv-loop μ-loop)
+    → let at = c .before .before .before in
+    let rs = ranges (at .before .before .args .class .now) in
+    drop (at .loop .i) rs ≡ this c ∷ drop (suc (at .loop .i)) rs
+next c =
+    let at = c .before .before .before in
+    held-next (ranges (at .before .before .args .class .now)) (at .before .ranges .ensures .0) (at .loop .i) (omega arith)
+
 latest : (c : tie.Then1 Inv-loop μ-loop)
     → let at = c .before .before .before .before in (1 ≤ at .loop .count) × (getD (at .loop .holes) (at .loop .count - 1) 0 ≤ at .loop .gaps)
 latest c =
-    let at = c .before .before .before .before in
-    let i = at .loop .i in
-    let held = at .before .ranges .result in
-    let r : Range = record { first = getD (held .first) i 0; last = getD (held .last) i 0 } in
-    let byte : Fits w8 (r .first) = search needs in
-    joining-latest r (held-next (ranges (at .before .before .args .class .now)) (at .before .ranges .ensures .0) i (omega arith)) (at .loop .inv .3) (c .if1 .taken) (omega arith) (omega arith)
+    let byte : Fits w8 (this (c .before) .first) = search needs in
+    joining-latest (this (c .before)) (next (c .before)) (c .before .before .before .before .loop .inv .3) (omega arith) (omega arith) (omega arith)
 
 ranges-requires : tie.Need-ranges-requires Inv-loop μ-loop
 ranges-requires c κs = search needs
@@ -96,20 +107,16 @@ loop-less c = search needs
 loop-again : tie.Need-loop-again Inv-loop μ-loop
 loop-again c =
     let at = c .before .before .before .before in
-    let i = at .loop .i in
-    let held = at .before .ranges .result in
-    let r : Range = record { first = getD (held .first) i 0; last = getD (held .last) i 0 } in
-    let next : drop i (ranges (at .before .before .args .class .now)) ≡ r ∷ drop (suc i) (ranges (at .before .before .args .class .now))
-    = held-next (ranges (at .before .before .args .class .now)) (at .before .ranges .ensures .0) i (omega arith) in
     let p = at .loop .inv .3 in
+    let r : Range = this (c .before) in
     let byte : Fits w8 (r .first) = search needs in
     let byte-last : Fits w8 (r .last) = search needs in (
       omega arith,
       omega arith,
       omega arith,
       ⊎-elim
-          (λ w. rw (w .1, w .2, w .3, w .4, w .5, w .6) (joining-longer r next p (w .0 .taken) (omega arith) (omega arith)))
-          (λ w. rw (w .1, w .2, w .3, w .4, w .5, w .6) (joining-alone r next p (w .0 .left) (omega arith)))
+          (λ w. rw (w .1, w .2, w .3, w .4, w .5, w .6) (joining-longer r (next (c .before)) p (w .0 .taken) (omega arith) (omega arith)))
+          (λ w. rw (w .1, w .2, w .3, w .4, w .5, w .6) (joining-alone r (next (c .before)) p (w .0 .left) (omega arith)))
           (c .if1 .came),
     )
 

@@ -1,12 +1,12 @@
 -- The comparisons tested one after another. The invariant: one of all holds exactly if one from i on does, whose exceptions stand from `at` on.
 -- The measure is what is left of the comparisons. Assumes nothing.
 use borrow.Author.Needs.{needs}
-use mathlib.Core.Path.{_≡_, refl, sym, ap, _∙_}
+use mathlib.Core.Path.{_≡_, sym, ap, _∙_}
 use mathlib.Core.Bool.{_||_}
 use mathlib.Core.List.{List}
 use Prim.Native.Nat.{_+_, _-_, _≤_, min}
 use native.Mathlib.Omega.{arith}
-use lib.ListN.{length, getD, drop}
+use lib.ListN.{length, drop}
 use Rattle.classes.specs.Classes.{Comparison, someHolds}
 use Rattle.classes.specs.ClassAnswers.{listed}
 use Rattle.classes.proofs.Listed.{listed-least, some-next}

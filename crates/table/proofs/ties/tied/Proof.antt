@@ -2,7 +2,7 @@
 use mathlib.Core.Path.{_≡_, sym, ap, _∙_}
 use native.Mathlib.Omega.{arith}
 use Rattle.rules.specs.Table.{tableOf}
-use Rattle.table.specs.Chains.{nextTied, tiedAt}
+use Rattle.table.specs.Chains.{nextTied}
 use Rattle.table.proofs.Conflicts.{tied-none, tied-one, tied-two}
 use borrow.Author.Needs.{needs}
 use Rattle.table.proofs.ties.tied.Statement.{statement}

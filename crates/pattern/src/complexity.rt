@@ -1,0 +1,85 @@
+// The value of a record and of a chain of records: `complexity` of the Rust, with chains in the place of its iterators.
+//
+// The three functions call each other, and record numbers fall: a record's first child and the next of its chain are below it. A record is
+// worked out once, by the one that names it.
+use crate::tree::record_at;
+use crate::utf8::Points;
+use crate::utf8::code_points;
+use crate::values::Priced;
+use crate::values::added;
+use crate::values::cap;
+use crate::values::least_of;
+use crate::values::multiplied;
+ghost use mathlib.Core.Path.{_≡_};
+ghost use Prim.Native.Nat.{ℕ, _+_, _<_, _≤_};
+ghost use lib.ListN.{length, take, drop};
+ghost use Rattle.pattern.specs.Utf8.{codePoints};
+ghost use Rattle.pattern.specs.Tree.{treeAt, chainAt};
+ghost use Rattle.pattern.specs.Priority.{literalValue};
+ghost use Rattle.pattern.specs.Priced.{priced, pricedSum, pricedLeast, capped};
+ghost use Rattle.pattern.specs.Held.{Within};
+
+// The value of the literal of b bytes from a.
+fn literal_value(bytes: &[u8], a: u32, b: u32) -> Priced
+    requires { ⌜ a + b ≤ length (now bytes) ⌝ }
+    ensures { λ r. ⌜ r ≡ capped (literalValue (take b (drop a (now (bytes .entry)))) (codePoints (take b (drop a (now (bytes .entry)))))) ⌝ }
+{
+    let from = a as usize;
+    let to = from + (b as usize);
+    match code_points(&bytes[from..to]) {
+        Points::Count(n) => cap(2 * (n as u64)),
+        Points::IllFormed => cap(2 * (b as u64)),
+    }
+}
+
+// The value of record i.
+pub fn record_value(tree: &[u32], bytes: &[u8], i: usize) -> Priced
+    requires { ⌜ Within (now tree) (now bytes) i ⌝ }
+    requires { ⌜ 0 < i ⌝ }
+    ensures { λ r. ⌜ r ≡ priced (treeAt (now (tree .entry)) (now (bytes .entry)) i) ⌝ }
+{
+    let r = record_at(tree, i);
+    let kind = r.kind;
+    match kind {
+        1 => literal_value(bytes, r.a, r.b),
+        2 => Priced::Value(2),
+        4 => multiplied(r.a, record_value(tree, bytes, r.child)),
+        5 => record_value(tree, bytes, r.child),
+        6 => chain_sum(tree, bytes, r.child),
+        7 => chain_least(tree, bytes, r.child),
+        _ => Priced::Value(0),
+    }
+}
+
+// The sum over the chain that begins at record first; 0: there is none.
+fn chain_sum(tree: &[u32], bytes: &[u8], first: usize) -> Priced
+    requires { ⌜ Within (now tree) (now bytes) first ⌝ }
+    ensures { λ r. ⌜ r ≡ pricedSum (chainAt (now (tree .entry)) (now (bytes .entry)) first) ⌝ }
+{
+    let mut total = Priced::Value(0);
+    let mut i = first;
+    while i != 0 {
+        let value = record_value(tree, bytes, i);
+        total = added(total, value);
+        i = record_at(tree, i).next;
+    }
+    total
+}
+
+// The least in the chain that begins at record first; 0: there is none.
+fn chain_least(tree: &[u32], bytes: &[u8], first: usize) -> Priced
+    requires { ⌜ Within (now tree) (now bytes) first ⌝ }
+    ensures { λ r. ⌜ r ≡ pricedLeast (chainAt (now (tree .entry)) (now (bytes .entry)) first) ⌝ }
+{
+    if first == 0 {
+        return Priced::Value(0);
+    }
+    let mut least = record_value(tree, bytes, first);
+    let mut i = record_at(tree, first).next;
+    while i != 0 {
+        let value = record_value(tree, bytes, i);
+        least = least_of(least, value);
+        i = record_at(tree, i).next;
+    }
+    least
+}
