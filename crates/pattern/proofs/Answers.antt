@@ -4,7 +4,9 @@ use mathlib.Core.Bool.{Bool, true, false, cond}
 use mathlib.Core.List.{List}
 use Prim.Native.Nat.{ℕ, _<_, _≤_}
 use native.Mathlib.Omega.{arith}
+use Rattle.lists.specs.Lists.{tab}
 use Rattle.lists.proofs.Bools.{Is, is, yes-is, no-is}
+use Rattle.pattern.specs.Utf8.{widthOf}
 use Rattle.pattern.specs.Tree.{Tree, count, treeAt, root, treeFits}
 use Rattle.pattern.specs.Priority.{priority, greedyAll, tooHigh, priorityOf, greedyOf}
 use Rattle.pattern.specs.Priced.{passes, answer, priced}
@@ -32,8 +34,8 @@ module _ (w bytes : List ℕ) where
     unfolding greedyOf
     greedy-told b e = rw (fits, e)
 
-    pub root-held : Within w bytes (count w) × (0 < count w)
-    root-held = (record { fits = fits; below = omega arith }, tree-rules w bytes fits .some)
+    pub root-held : (widths : List ℕ) → widths ≡ tab 0 256 widthOf → Within w bytes widths (count w) × (0 < count w)
+    root-held widths e = (record { fits = fits; table = e; below = omega arith }, tree-rules w bytes fits .some)
 
     module _ (x : Priced) (is-root : x ≡ priced (treeAt w bytes (count w))) where
       -- a value where the root's tree passes no limit, and else none
