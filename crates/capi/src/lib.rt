@@ -8,5 +8,6 @@
 pub mod byte_class;
 pub mod lent;
 pub mod masks;
+pub mod priorities;
 pub mod read;
 pub mod scan;
