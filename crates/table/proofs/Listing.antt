@@ -15,7 +15,7 @@ use Rattle.rules.specs.Table.{Table, tableOf, leafAt, refusal}
 use Rattle.rules.specs.Build.{Error, emptyMatch, disambiguation, errorWords, emptyLeaves}
 use Rattle.table.specs.Chains.{tieFrom}
 use Rattle.table.specs.Listed.{listed}
-use Rattle.table.proofs.Records.{leaves-are}
+use Rattle.table.proofs.Counts.{leaves-length}
 
 -- a list's words, all written from the front
 pub run-listed : (errors : List Error) {words found out rest : List ℕ} {at : ℕ} → words ≡ flatMap errorWords errors → rest ≡ []
@@ -69,7 +69,7 @@ module _ (t : Table) (m : ℕ) where
 
 pub empties-all : (w : List ℕ) (legal : refusal w ≡ 0) → emptiesOn (tableOf w) (getD w 2 0) 0 ≡ emptyLeaves (tableOf w)
 unfolding emptiesOn emptyLeaves
-empties-all w legal = let e : getD w 2 0 - 0 ≡ getD w 2 0 = omega arith in rw (leaves-are w legal, e)
+empties-all w legal = let e : getD w 2 0 - 0 ≡ getD w 2 0 = omega arith in rw (leaves-length w, e)
 
 -- three words a leaf
 pub empty-words : (l : List ℕ) → length (flatMap errorWords (map emptyMatch l)) ≡ 3 * length l

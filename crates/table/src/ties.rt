@@ -14,10 +14,9 @@ ghost use Rattle.table.specs.Listed.{tiesIn, listed};
 use crate::leaf::match_leaf;
 use crate::leaf::next_tied;
 use crate::leaf::top;
-use words::table::leaf_place;
+use words::table::leaf_word;
 use words::table::leaves;
 use words::table::states;
-use words::word;
 
 // The record where the tie of state s begins; 0 if it has none, or is not in the set.
 fn tied(table: &[u16], set: &[bool; 1024], s: usize) -> usize
@@ -217,7 +216,7 @@ pub fn write_empty(table: &[u16], errors: &mut [u16])
     let mut at: usize = 0;
     let mut l: usize = 0;
     while l < m {
-        if word(table, leaf_place(l, 2)) == 1 {
+        if leaf_word(table, l, 2) == 1 {
             errors[at] = 1;
             errors[at + 1] = 1;
             errors[at + 2] = l as u16;
