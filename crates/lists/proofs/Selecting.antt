@@ -55,6 +55,12 @@ module _ {A : Type 0} where
   select-whole (true ∷ keep) (x ∷ l) (suc n) h = ap (_∷_ x) (select-whole keep l n (le-of-suc-le-suc h))
   select-whole (false ∷ keep) (x ∷ l) (suc n) h = select-whole keep l n (le-of-suc-le-suc h)
 
+  pub select-le : (keep : List Bool) (l : List A) → length (select keep l) ≤ length l
+  select-le [] l = zero-le
+  select-le (b ∷ keep) [] = zero-le
+  select-le (true ∷ keep) (x ∷ l) = suc-le-suc (select-le keep l)
+  select-le (false ∷ keep) (x ∷ l) = let h = select-le keep l in omega arith
+
   -- no more than the numbers passed
   pub select-few : (keep : List Bool) (l : List A) (n : ℕ) → length (select (take n keep) l) ≤ n
   select-few keep l zero = zero-le

@@ -13,7 +13,7 @@ use Rattle.rules.specs.Graph.{Graph, to, acceptOf, earlyOf, graphFrom, graphFit
 use Rattle.rules.proofs.Fits.{Fits}
 use Rattle.rules.proofs.Flat.{target-word, marks-word}
 use Rattle.rules.proofs.Taken.{taken-long, taken-few}
-use Rattle.rules.proofs.Words.{words-length, buffer-length, words-taken}
+use Rattle.rules.proofs.Words.{words-length, buffer-length, words-taken, graph-back}
 use Rattle.rewrite.proofs.Read.{from-length, target-is, accept-is, early-is, taken-fits}
 
 -- ---- words that are the same from some place on
@@ -81,6 +81,12 @@ pub buffer-taken : (m n : ℕ) → m ≤ 255 → n ≤ 1024 → (g : Graph) → 
 unfolding graphBuffer
 buffer-taken m n leaves states g f rest =
     rw (append-assoc (graphWords g) (replicate (258 * (n - length (g .states))) 0) rest) (words-taken m n leaves states g f (replicate (258 * (n - length (g .states))) 0 ++ rest))
+
+-- and it is read back
+pub buffer-back : (m n : ℕ) → m ≤ 255 → n ≤ 1024 → (g : Graph) → Fits m n g → (rest : List ℕ) → graphFrom (graphBuffer n g ++ rest) ≡ g
+unfolding graphBuffer
+buffer-back m n leaves states g f rest =
+    rw (append-assoc (graphWords g) (replicate (258 * (n - length (g .states))) 0) rest) (graph-back m n leaves states g f (replicate (258 * (n - length (g .states))) 0 ++ rest))
 
 -- the words that are taken are those of the graph that they hold
 pub taken-words : (w : List ℕ) → graphFits w ≡ true → ((i : ℕ) → getD w i 0 < 65536)

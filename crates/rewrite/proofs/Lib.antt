@@ -11,3 +11,6 @@ pub mod Rows
 pub mod Packing
 pub mod Naming
 pub mod Pruning
+pub mod Twins
+pub mod Grouping
+pub mod Rounds

@@ -3,23 +3,22 @@
 use mathlib.Core.Path.{_≡_, sym, ap, _∙_}
 use mathlib.Core.Bool.{Bool, false}
 use mathlib.Core.List.{List, _++_}
-use mathlib.Core.Option.{Option, none, some, Option·getD}
-use mathlib.Core.Logic.{inl, inr, ⊎-elim}
-use Prim.Native.Nat.{ℕ, _<_}
+use mathlib.Core.Option.{Option, none}
+use Prim.Native.Nat.{ℕ}
 use native.Mathlib.Omega.{arith}
-use lib.ListN.{length, getD, replicate, List·getD-eq-default}
+use lib.ListN.{length, getD, replicate}
 use lib.Seq.{take-at}
 use Rattle.lists.specs.Lists.{select, numberFrom}
-use Rattle.lists.proofs.Numbering.{number-in}
-use Rattle.lists.proofs.Numbers.{number-length, number-padded}
+use Rattle.lists.proofs.Numbers.{number-padded}
 use Rattle.lists.proofs.Padding.{padding-at}
-use Rattle.lists.proofs.Selecting.{select-few, select-whole}
+use Rattle.lists.proofs.Selecting.{select-whole}
 use Rattle.rules.specs.Graph.{State, Graph}
 use Rattle.rules.specs.Build.{relabel, restrict, kept, pruned}
-use Rattle.rules.proofs.Prune.{kept-length, kept-root, restrict-placed}
+use Rattle.rules.proofs.Prune.{kept-length}
 use Rattle.rewrite.specs.Names.{Fitting}
 use Rattle.rewrite.proofs.Read.{Root}
 use Rattle.rewrite.proofs.Naming.{relabel-alike}
+use Rattle.rewrite.proofs.Steps.{fitting-alike, pruned-fitting}
 
 module _ (g : Graph) (j : ℕ) (names : List (Option ℕ)) (names-are : names ≡ numberFrom 0 (kept g ++ replicate j false)) where
   abbrev keep : List Bool
@@ -38,21 +37,4 @@ module _ (g : Graph) (j : ℕ) (names : List (Option ℕ)) (names-are : names �
   prune-is = ap (λ (r : List State). relabel names r (g .root)) rest-is ∙ relabel-alike names (numberFrom 0 (kept g)) (select (kept g) (g .states)) (g .root) alike
 
   pub prune-fitting : Root (length (g .states)) (g .root) → Fitting names (select (kept g ++ replicate j false) (g .states)) (g .root)
-  prune-fitting root = rw rest-is (record { below = below; root-below = ⊎-elim (λ h. inl (named h)) (λ h. inr (none-left (h .0))) root })
-    where
-      below : (s i : ℕ) → getD names s none ≡ some i → i < length (select (kept g) (g .states))
-      below s i e = restrict-placed g (kept g) (kept-length g) s i (sym (alike s) ∙ e) .0
-
-      named : g .root < length (g .states) → Option·getD (getD names (g .root) none) 0 < length (select (kept g) (g .states))
-      named h =
-          let (i, e) = number-in 0 (kept g) (g .root) (kept-root g h) in
-          rw (alike (g .root) ∙ e) (below (g .root) i (alike (g .root) ∙ e))
-
-      none-left : length (g .states) ≡ 0 → (length (select (kept g) (g .states)) ≡ 0) × (Option·getD (getD names (g .root) none) 0 ≡ 0)
-      none-left h =
-          let a = number-length 0 (kept g) in
-          let b = kept-length g in
-          let c = select-few (kept g) (g .states) (length (g .states)) in
-          let d = ap length (select-whole (kept g) (g .states) (length (g .states)) (omega arith)) in
-          let e : getD names (g .root) none ≡ none = alike (g .root) ∙ List·getD-eq-default (numberFrom 0 (kept g)) none (omega arith) in
-          (omega arith, rw e)
+  prune-fitting root = rw rest-is (fitting-alike names (numberFrom 0 (kept g)) (select (kept g) (g .states)) (g .root) alike (pruned-fitting g root))
