@@ -7,7 +7,7 @@
 ghost use mathlib.Core.Path.{_≡_};
 ghost use Prim.Native.Nat.{_<_, min, _+_};
 ghost use lib.ListN.{length};
-ghost use Rattle.vectors.specs.Reading.{byteAt, halfAt, wordAt, flagsAt};
+ghost use Rattle.vectors.specs.Reading.{byteAt, halfAt, wordAt, bitAt, flagsAt, partAt};
 
 pub mod parts;
 pub mod tally;
@@ -60,14 +60,33 @@ pub fn after(list: &[u8], at: usize, n: usize) -> usize
     at + n
 }
 
-// The 256 flags of the class at a place: 32 bytes, flag b being bit b mod 8 of byte b / 8.
+// Bit i from a place on: bit i mod 8 of byte i / 8.
+pub fn bit(list: &[u8], at: usize, i: usize) -> bool
+    ensures { λ r. ⌜ r ≡ bitAt (now (list .entry)) at i ⌝ }
+{
+    classes::masks::test_bit(byte(list, after(list, at, i / 8)), i % 8)
+}
+
+// The 256 flags of the class at a place: 32 bytes.
 pub fn flags(list: &[u8], at: usize) -> [bool; 256]
     ensures { λ r. ⌜ r ≡ flagsAt (now (list .entry)) at ⌝ }
 {
     let mut class = [false; 256];
     for b in 0..256 {
-        let word = byte(list, after(list, at, b / 8));
-        class[b] = classes::masks::test_bit(word, b % 8);
+        class[b] = bit(list, at, b);
     }
     class
+}
+
+// The n bytes at a place; none where the list has fewer.
+pub fn part(list: &[u8], at: usize, n: usize) -> &[u8]
+    ensures { λ r. ⌜ now r ≡ partAt (now (list .entry)) at n ⌝ }
+{
+    if list.len() < at {
+        return &list[..0];
+    }
+    if list.len() - at < n {
+        return &list[..0];
+    }
+    &list[at..at + n]
 }

@@ -1,28 +1,21 @@
 -- `flags` meets its contract. The invariant: the flags below b are those of the list; the measure is what is left of the 256. Assumes nothing.
 use borrow.Author.Needs.{needs}
 use borrow.Author.Count.{below-more}
-use mathlib.Core.Path.{_≡_, ap, sym, _∙_}
+use mathlib.Core.Path.{_≡_, sym, _∙_}
 use mathlib.Core.Bool.{Bool, false}
 use mathlib.Core.List.{List}
-use Prim.Native.Nat.{ℕ, _+_, _-_, _/_, _%_, _<_, _≤_}
+use Prim.Native.Nat.{ℕ, _-_, _<_, _≤_}
 use native.Mathlib.Omega.{arith}
 use lib.ListN.{length, getD, set, length-set, length-replicate}
 use lib.Seq.{getD-set-same, getD-set-other, ext-getD}
-use Rattle.lists.specs.Lists.{tab}
 use Rattle.lists.proofs.Elements.{length-tab, getD-tab0}
-use Rattle.classes.specs.Masks.{isSet}
-use Rattle.vectors.specs.Reading.{byteAt, flagsAt}
-use Rattle.vectors.proofs.PastEnd.{byte-held}
+use Rattle.vectors.specs.Reading.{bitAt, flagsAt}
+use native.Mathlib.Omega.{arith}
 use Rattle.vectors.proofs.flags.Statement.{statement}
 use Rattle.vectors.proofs.flags.Tie as tie
 
--- flag b of the class at a place
-abbrev flagAt : List ℕ → ℕ → ℕ → Bool
-flagAt list at b = isSet (b % 8) (byteAt list (at + b / 8))
-
 abbrev Inv-loop : tie.InvT-loop
-Inv-loop list at class₀ b₀ class b =
-    (b ≤ 256) × (length class ≡ 256) × ((k : ℕ) → k < b → getD class k false ≡ flagAt list at k)
+Inv-loop list at class₀ b₀ class b = (b ≤ 256) × (length class ≡ 256) × ((k : ℕ) → k < b → getD class k false ≡ bitAt list at k)
 
 abbrev μ-loop : tie.MeasureT-loop
 μ-loop list at class₀ b₀ class b = 256 - b
@@ -30,14 +23,8 @@ abbrev μ-loop : tie.MeasureT-loop
 loop-holds : tie.Need-loop-holds Inv-loop μ-loop
 loop-holds c = (search needs, length-replicate {A = Bool} 256 false, λ k h. absurd (omega arith))
 
-after-requires : tie.Need-after-requires Inv-loop μ-loop
-after-requires c κs = search needs
-
-byte-requires : tie.Need-byte-requires Inv-loop μ-loop
-byte-requires c κs = search needs
-
-test-bit-requires : tie.Need-test-bit-requires Inv-loop μ-loop
-test-bit-requires c κs = search needs
+bit-requires : tie.Need-bit-requires Inv-loop μ-loop
+bit-requires c κs = search needs
 
 array-write-class : tie.Need-array-write-class Inv-loop μ-loop
 array-write-class c = search needs
@@ -50,29 +37,26 @@ loop-less c = search needs
 
 loop-again : tie.Need-loop-again Inv-loop μ-loop
 loop-again c =
-    let at = c .before .before .before .before in
-    let list = at .before .before .args .list .now in
-    let place = at .before .before .args .at in
+    let at = c .before .before in
+    let args = at .before .before .args in
     let class : List Bool = at .loop .class in
     let b = at .loop .b in
-    let flag = c .test-bit .result in
-    let word : c .before .byte .result ≡ byteAt list (place + b / 8) =
-    c .before .byte .ensures ∙ ap (byteAt list) (c .before .before .after .ensures) ∙ byte-held list (place + b / 8) in (
+    let flag = c .bit .result in (
       omega arith,
       length-set class b flag ∙ at .loop .inv .1,
-      below-more (λ k. getD (set class b flag) k false ≡ flagAt list place k) b
+      below-more (λ k. getD (set class b flag) k false ≡ bitAt (args .list .now) (args .at) k) b
           (λ k h. getD-set-other class b k flag false (λ e. omega arith) ∙ at .loop .inv .2 k h)
-          (getD-set-same class b flag false (omega arith) ∙ c .test-bit .ensures ∙ ap (isSet (b % 8)) word),
+          (getD-set-same class b flag false (omega arith) ∙ c .bit .ensures),
     )
 
 returns : tie.Need-returns Inv-loop μ-loop
 returns c =
     let at = c .before in
-    let list = at .before .before .args .list .now in
-    let place = at .before .before .args .at in
+    let args = at .before .before .args in
+    let flag = bitAt (args .list .now) (args .at) in
     let class : List Bool = at .loop .class in
-    ext-getD false class (flagsAt list place) (at .loop .inv .1 ∙ sym (length-tab 0 256 (flagAt list place)))
-    (λ k h. at .loop .inv .2 k (omega arith) ∙ sym (getD-tab0 256 (flagAt list place) k false (omega arith)))
+    ext-getD false class (flagsAt (args .list .now) (args .at)) (at .loop .inv .1 ∙ sym (length-tab 0 256 flag))
+    (λ k h. at .loop .inv .2 k (omega arith) ∙ sym (getD-tab0 256 flag k false (omega arith)))
 
 pub flags-spec : {M : Type 1} → statement M
 flags-spec =
@@ -81,9 +65,7 @@ flags-spec =
     Inv-loop
     μ-loop
     loop-holds
-    after-requires
-    byte-requires
-    test-bit-requires
+    bit-requires
     array-write-class
     add-b
     loop-less
