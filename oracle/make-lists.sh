@@ -1,6 +1,6 @@
 #!/usr/bin/env bash
 # Builds the oracle, holds its texts and scans of the data images against the ones beside them, and writes the stored lists of its answers
-# to oracle/lists. The seeds are fixed: the same bytes come out every time. DATA names the folder of the images.
+# to the programs that replay them, or to oracle/lists. The seeds are fixed: the same bytes come out every time. DATA names the folder of the images.
 set -eu
 cd "$(dirname "$0")/.."
 DATA=${DATA:-../shared/data}
@@ -9,8 +9,9 @@ for image in "$DATA"/*.image; do
     target/oracle/oracle print <"$image" | cmp - "${image%.image}.printed"
     target/oracle/oracle scan "$image" <"${image%.image}.sample" | cmp - "${image%.image}.scan"
 done
-mkdir -p oracle/lists
 for name in classes priorities builds display readings plans; do
-    target/oracle/oracle list "$name" "$DATA"/*.image >"oracle/lists/$name.bin"
+    list=crates/replay_$name/stdin
+    [ -d "crates/replay_$name" ] || list=oracle/lists/$name.bin
+    target/oracle/oracle list "$name" "$DATA"/*.image >"$list"
+    ls -l "$list"
 done
-ls -l oracle/lists

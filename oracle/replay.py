@@ -18,14 +18,20 @@ import texts
 import trees
 from forms import Refused, told
 
-LISTS = os.path.join(os.path.dirname(os.path.abspath(__file__)), "lists")
+ROOT = os.path.dirname(os.path.dirname(os.path.abspath(__file__)))
+
+
+def path(name):
+    """Where a list stands: with the program that replays it, if there is one."""
+    program = os.path.join(ROOT, "crates", "replay_" + name)
+    return os.path.join(program, "stdin") if os.path.isdir(program) else os.path.join(ROOT, "oracle", "lists", name + ".bin")
 
 
 class Stored:
     """A list while it is read."""
 
     def __init__(self, name):
-        with open(os.path.join(LISTS, name + ".bin"), "rb") as file:
+        with open(path(name), "rb") as file:
             self.all = file.read()
         self.at = 0
         self.checked = 0

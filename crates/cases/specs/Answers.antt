@@ -16,7 +16,7 @@ use Rattle.graph.specs.Answers.{readTold, tableRead, graphRead}
 use Rattle.plans.specs.declared.scan.Scan.{Scan}
 use Rattle.plans.specs.Scan.{fresh, gapLength, next, scanTold}
 use Rattle.display.specs.Text.{bytes, decimal}
-use Rattle.display.specs.Display.{letterOf, escaped, rangeText, classText, classTo, leadsTo, targets, firstLine, edgeLine, edgeLines, stateText, displayed, lineOf, conflictLine}
+use Rattle.display.specs.Display.{letterOf, escaped, rangeText, classText, classTo, leadsTo, targets, firstLine, edgeLine, stateText, displayed, lineOf, conflictLine}
 
 abbrev pub numbers : Told → List ℕ
 numbers t = t .refusal ∷ t .values
@@ -49,7 +49,7 @@ errorsOf w = flatMap errorWords (build (tableOf w) .errors)
 
 -- what the graph printer prints: the graph's text and a line end, then a line for each error
 unfoldable pub printed : List ℕ → List ℕ
-unfolding graphOf costOf decimal letterOf escaped rangeText classText classTo leadsTo targets firstLine edgeLine edgeLines stateText displayed lineOf conflictLine
+unfolding graphOf costOf decimal letterOf escaped rangeText classText classTo leadsTo targets firstLine edgeLine stateText displayed lineOf conflictLine
 printed w = let b = build (tableOf w) in displayed (b .graph) ++ (bytes "\n" ++ flatMap (λ e. conflictLine e ++ bytes "\n") (b .errors))
 
 -- ---- readings and scans: by the table's words, and by the words of its graph

@@ -34,7 +34,7 @@ k4 = 3 ∷ 1 ∷ 2 ∷ 2 ∷ 7 ∷ 0 ∷ 0 ∷ 7 ∷ 0 ∷ 0 ∷ (all 0 0 ++ (by
 
 -- ---- classes
 
--- flags of the ranges from `first` to `last`: n flags that are not set, then those that are
+-- flags: `before` that are not set, then `size` that are
 abbrev pub span : ℕ → ℕ → List Bool
 span before size = replicate before false ++ replicate size true
 
@@ -60,6 +60,7 @@ table =
     -- K3: its scan: token 0 to 1, gap 1 to 2, ended, then 16
     ∷ case (scanned 4 k1 (bytes "ab")) (0 ∷ 1 ∷ 0 ∷ 0 ∷ 1 ∷ 0 ∷ 2 ∷ 0 ∷ 1 ∷ 2 ∷ 0 ∷ 0 ∷ 0 ∷ 0 ∷ 0 ∷ 16 ∷ 0 ∷ 0 ∷ 0 ∷ 0 ∷ [])
     -- K4: two leaves tie: no accept, `error 2 0 1`
+    ∷ case (refusalOf k4) (0 ∷ [])
     ∷ case (graphOf k4) (1 ∷ 0 ∷ replicate 258 65535)
     ∷ case (errorsOf k4) (2 ∷ 2 ∷ 0 ∷ 1 ∷ [])
     ∷ case (printed k4) (bytes "  state0 => StateData() {\n  }\nerror 2 0 1\n")

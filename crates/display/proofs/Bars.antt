@@ -1,10 +1,10 @@
 -- The text of a class, range by range, as its struct holds them. Assumes nothing.
-use mathlib.Core.Path.{_≡_, ap, _∙_}
-use mathlib.Core.List.{List, [], _∷_, _++_, map}
-use Prim.Native.Nat.{ℕ, suc, _+_, _≤_, _<_}
+use mathlib.Core.Path.{_≡_, ap}
+use mathlib.Core.List.{List, [], _++_, map}
+use Prim.Native.Nat.{ℕ, _+_, _≤_, _<_}
 use native.Mathlib.Numerals.{add-one}
 use native.Mathlib.Omega.{arith}
-use lib.ListN.{length, getD, drop}
+use lib.ListN.{getD, drop}
 use Rattle.classes.specs.Classes.{Class, Range, ranges}
 use Rattle.classes.specs.ClassAnswers.{asByteClass}
 use Rattle.classes.specs.declared.byte_class.ByteClass.{ByteClass}

@@ -1,16 +1,15 @@
 -- What a call leaves, refused or not. Assumes nothing.
 use mathlib.Core.Path.{_≡_, refl, sym, ap, _∙_}
 use mathlib.Core.Bool.{true, false}
-use mathlib.Core.List.{List}
-use Prim.Native.Nat.{ℕ, _+_, _≤_, _<_}
-use native.Mathlib.Omega.{arith}
+use mathlib.Core.List.{List, _++_}
+use Prim.Native.Nat.{ℕ, _≤_, _<_}
 use borrow.Author.Tests.{le-leb, lt-leb}
-use lib.ListN.{length, getD}
-use Rattle.lists.proofs.Buffers.{sets-front}
+use lib.ListN.{length, drop}
 use Rattle.rules.specs.Graph.{graphFrom, graphFits}
 use Rattle.display.specs.Text.{Wrote}
-use Rattle.display.specs.Display.{displayed}
-use Rattle.display.specs.Answers.{Call, refused, written, displayCall}
+use Rattle.display.specs.Display.{displayed, lineOf}
+use Rattle.display.specs.Answers.{Call, refused, written, displayCall, errorFits, lineCall}
+use Rattle.display.proofs.Runs.{front-place, front-buffer}
 use Rattle.display.specs.declared.Shown.{Shown}
 use Rattle.display.specs.declared.Shown.the-variants.{Bytes, Refused}
 
@@ -32,10 +31,10 @@ module _ (text found : List ℕ) where
 
   pub left-written : {out : List ℕ} {n : ℕ} → length text ≤ length found → Wrote found 0 text out n → Left (written text found) (Bytes n) out
   unfolding written
-  left-written h w =
-      let e : 0 + length text ≡ length text = omega arith in
+  left-written {out} {n} h w =
+      let e : n ≡ length text = front-place text w in
       rw (le-leb (length text) (length found) h)
-      (record { says = ap Bytes (w .place ∙ e); holds = w .buffer ∙ sets-front found text h })
+      (record { says = ap Bytes e; holds = front-buffer text w h ∙ ap (λ (k : ℕ). text ++ drop k found) e })
 
 module _ (w found : List ℕ) where
   pub display-refused : graphFits w ≡ false → displayCall w found ≡ refused 12 found
@@ -45,3 +44,11 @@ module _ (w found : List ℕ) where
   pub display-taken : graphFits w ≡ true → displayCall w found ≡ written (displayed (graphFrom w)) found
   unfolding displayCall
   display-taken e = rw e
+
+  pub line-refused : errorFits w ≡ false → lineCall w found ≡ refused 9 found
+  unfolding lineCall
+  line-refused e = rw e
+
+  pub line-taken : errorFits w ≡ true → lineCall w found ≡ written (lineOf w) found
+  unfolding lineCall
+  line-taken e = rw e

@@ -11,3 +11,5 @@ pub mod ClassSize
 pub mod Sizes
 pub mod Members
 pub mod Calls
+pub mod Conflicts
+pub mod Rooms

@@ -1,11 +1,10 @@
 -- The lines of a state's edges, target by target. Assumes nothing.
-use mathlib.Core.Path.{_≡_, refl, sym, ap, _∙_}
-use mathlib.Core.Bool.{Bool, true, false}
-use mathlib.Core.List.{List, [], _∷_, _++_, map}
-use Prim.Native.Nat.{ℕ, zero, suc, _+_, _-_, _≤_, _<_}
+use mathlib.Core.Path.{_≡_, ap, _∙_}
+use mathlib.Core.Bool.{true, false}
+use mathlib.Core.List.{List, [], _++_, map}
+use Prim.Native.Nat.{ℕ, suc, _+_, _-_, _≤_, _<_}
 use native.Mathlib.Numerals.{add-one}
 use native.Mathlib.Omega.{arith}
-use lib.ListN.{length}
 use Rattle.lists.specs.Lists.{tab, those}
 use Rattle.rules.specs.Graph.{State}
 use Rattle.display.specs.Text.{bytes, after}
@@ -31,7 +30,7 @@ module _ (st : State) where
 
   module _ (n : ℕ) where
     pub lined-all : after (bytes "\n") (edgeLines n st) ≡ lined n 0
-    unfolding edgeLines targets lined
+    unfolding targets lined
     lined-all = let e : n ≡ n - 0 = omega arith in ap (linesFrom 0) e
 
     module _ (u : ℕ) (h : u < n) where

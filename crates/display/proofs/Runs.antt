@@ -1,13 +1,13 @@
 -- A text written after another is both, written in a row; there is a number for the place after it. Assumes nothing.
 use mathlib.Core.Path.{_≡_, refl, sym, ap, subst, _∙_}
-use mathlib.Core.List.{List, [], _∷_, _++_, append-assoc, append-nil}
-use Prim.Native.Nat.{ℕ, zero, suc, _+_, _≤_, _<_, _^_}
+use mathlib.Core.List.{List, [], _++_, append-assoc, append-nil}
+use Prim.Native.Nat.{ℕ, _+_, _≤_, _<_, _^_}
 use native.Mathlib.Nat.{add-zero}
 use native.Mathlib.Omega.{arith}
 use native.Mathlib.Numerals.{add-one}
-use lib.ListN.{length, getD, take, length-append}
+use lib.ListN.{length, getD, take, drop, length-append}
 use lib.Seq.{sets, length-sets, take-suc, take-all, length-take-le}
-use Rattle.lists.proofs.Buffers.{sets-append}
+use Rattle.lists.proofs.Buffers.{sets-append, sets-front}
 use Rattle.display.specs.Text.{Wrote, Counts, one}
 
 pub wrote-none : (found : List ℕ) (at : ℕ) → Wrote found at [] found at
@@ -29,6 +29,14 @@ wrote-as {found} {text} {other} {out} {at} {next} e a = subst (λ (t : List ℕ)
 -- the buffer keeps its length
 pub wrote-length : {found text out : List ℕ} {at next : ℕ} → Wrote found at text out next → length out ≡ length found
 wrote-length {found} {text} {out} {at} a = ap length (a .buffer) ∙ length-sets found at text
+
+-- from the front, where there is room: the text, and the rest as found
+module _ (text : List ℕ) {found out : List ℕ} {next : ℕ} (a : Wrote found 0 text out next) where
+  pub front-place : next ≡ length text
+  front-place = let p = a .place in omega arith
+
+  pub front-buffer : length text ≤ length found → out ≡ text ++ drop next found
+  front-buffer h = a .buffer ∙ sets-front found text h ∙ ap (λ (k : ℕ). text ++ drop k found) (sym front-place)
 
 -- of two texts in a row, the first; and, once that is written, the second
 pub counts-first : (at : ℕ) (text more : List ℕ) → Counts at (text ++ more) → Counts at text

@@ -1,9 +1,8 @@
 -- How long the text of a state is at most. The lines of all its edges together have at most 25 bytes for each byte that leads somewhere: seven
 -- in its class, and 18 for the line, which has one byte at least. Assumes nothing.
-use mathlib.Core.Path.{_≡_, refl, sym, ap, _∙_}
-use mathlib.Core.Bool.{Bool, true, false}
-use mathlib.Core.List.{List, [], _∷_, _++_, map}
-use mathlib.Core.Option.{Option, none, some}
+use mathlib.Core.Path.{_≡_, refl, ap, _∙_}
+use mathlib.Core.Bool.{true}
+use mathlib.Core.List.{List, [], _++_, map}
 use mathlib.Core.Logic.{_⊎_, inl, inr, ⊎-elim}
 use Prim.Native.Nat.{ℕ, zero, suc, _+_, _*_, _/_, _%_, _≤_, _<_}
 use native.Mathlib.Omega.{arith}
@@ -61,7 +60,7 @@ module _ (st : State) where
       go (no-is q) r = rw (q, those) (omega arith)
 
   pub edges-size : (n : ℕ) → n ≤ 10000 → length (after (bytes "\n") (edgeLines n st)) ≤ 6400
-  unfolding edgeLines targets
+  unfolding targets
   edges-size n h =
       let l = lines-size 0 n (omega arith) in
       let m = all-members (bytesOf st) 0 n in

@@ -1,13 +1,12 @@
 -- The text of a graph, as Rust's `Display` of `Graph`, `StateData`, `ByteClass` and `State` gives it, and the lines of the conflicts (document 01, K1 and
 -- the paragraph after it). Definitions only.
-use mathlib.Core.Bool.{Bool, true, false, cond, _&&_, _||_}
+use mathlib.Core.Bool.{Bool, cond, _&&_, _||_}
 use mathlib.Core.List.{List, [], _∷_, _++_, map}
 use mathlib.Core.Option.{Option, none, some}
 use Prim.Native.Nat.{ℕ, _+_, _/_, _%_}
 use Prim.Native.Char.{code}
-use Prim.Native.String.{String}
 use lib.Dec.{eqb, leb, ltb}
-use lib.ListN.{length, getD, take}
+use lib.ListN.{length, getD, take, drop}
 use Rattle.lists.specs.Lists.{below, anyL, those, eqOption}
 use Rattle.rules.specs.Graph.{State, Graph, stateOf}
 use Rattle.rules.specs.Build.{Error, errorWords}
@@ -75,7 +74,7 @@ unfoldable pub edgeLine : Class → ℕ → List ℕ
 edgeLine c u = bytes "    " ++ (classText c ++ (bytes " => " ++ nameOf u))
 
 -- one for each target
-unfoldable pub edgeLines : ℕ → State → List (List ℕ)
+abbrev pub edgeLines : ℕ → State → List (List ℕ)
 edgeLines n st = map (λ u. edgeLine (classTo st u) u) (targets n st)
 
 abbrev pub endLines : Option ℕ → List (List ℕ)
@@ -96,9 +95,7 @@ displayed g = let n = length (g .states) in joined (bytes "\n") (map (λ s. stat
 -- ---- a conflict: "one line an error, as `error 2 0 1` (kind, then leaves)", from its words: kind, leaf count, leaves
 
 unfoldable pub lineOf : List ℕ → List ℕ
-lineOf [] = []
-lineOf (kind ∷ []) = []
-lineOf (kind ∷ (count ∷ leaves)) = joined (bytes " ") (bytes "error" ∷ map decimal (kind ∷ take count leaves))
+lineOf words = joined (bytes " ") (bytes "error" ∷ map decimal (getD words 0 0 ∷ take (getD words 1 0) (drop 2 words)))
 
 unfoldable pub conflictLine : Error → List ℕ
 conflictLine e = lineOf (errorWords e)

@@ -18,3 +18,5 @@ pub mod Runs
 pub mod Members
 pub mod Disjunctions
 pub mod Intervals
+pub mod Selecting
+pub mod Numbers

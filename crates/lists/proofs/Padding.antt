@@ -1,10 +1,18 @@
--- A list with one value after it as often as wanted: it reads as the list, where that value is the default. Assumes nothing.
+-- The default of a reading, and a list with one value after it as often as wanted, which reads as the list where that value is the default.
+-- Assumes nothing.
 use mathlib.Core.Path.{_≡_, refl, sym, _∙_}
 use mathlib.Core.List.{List, [], _∷_, _++_}
-use Prim.Native.Nat.{ℕ, zero, suc, _+_, _-_, _≤_}
+use Prim.Native.Nat.{ℕ, zero, suc, _+_, _-_, _≤_, _<_}
+use native.Mathlib.Nat.{not-suc-le-zero, le-of-suc-le-suc}
 use native.Mathlib.Omega.{arith}
 use lib.ListN.{length, getD, replicate, length-append, length-replicate}
 use lib.Seq.{ext-getD}
+
+-- within a list the default does not matter
+pub default-any : {A : Type 0} (a b : A) (l : List A) (i : ℕ) → i < length l → getD l i a ≡ getD l i b
+default-any a b [] i h = absurd (not-suc-le-zero h)
+default-any a b (x ∷ l) zero h = refl
+default-any a b (x ∷ l) (suc i) h = default-any a b l i (le-of-suc-le-suc h)
 
 module _ {A : Type 0} (d : A) where
   pub replicate-at : (k i : ℕ) → getD (replicate k d) i d ≡ d

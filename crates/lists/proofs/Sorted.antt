@@ -1,13 +1,12 @@
 -- Lists ordered by their first difference, a shorter prefix first: `before` is a total order, and `sorted` gives a list in that order with just the
 -- elements that it was given, each as often. By induction. Assumes nothing.
 use mathlib.Core.Path.{_≡_, refl, sym, ap, _∙_}
-use mathlib.Core.Bool.{Bool, true, false, _&&_, _||_, false≢true}
+use mathlib.Core.Bool.{Bool, true, false, false≢true}
 use mathlib.Core.List.{List, [], _∷_}
 use Prim.Native.Nat.{ℕ, zero, suc, _+_, _≤_, _<_}
 use native.Mathlib.Nat.{not-suc-le-zero, le-of-suc-le-suc}
 use native.Mathlib.Omega.{arith}
 use borrow.Author.Tests.{lt-ltb, le-ltb, eq-eqb, ne-eqb}
-use lib.Dec.{eqb, ltb}
 use lib.ListN.{length, getD}
 use Rattle.lists.specs.Lists.{allL, those, before, insert, sorted}
 use Rattle.lists.proofs.Bools.{Is, is, yes-is, no-is, and-both, and-intro, Order, order, less, equal, more}

@@ -4,7 +4,9 @@ use mathlib.Core.Bool.{Bool, true, false, cond}
 use mathlib.Core.List.{List}
 use Prim.Native.Nat.{ℕ, _<_, _≤_}
 use native.Mathlib.Omega.{arith}
+use Rattle.lists.specs.Lists.{tab}
 use Rattle.lists.proofs.Bools.{Is, is, yes-is, no-is}
+use Rattle.pattern.specs.Utf8.{widthOf}
 use Rattle.pattern.specs.Tree.{Tree, count, treeAt, root, treeFits}
 use Rattle.pattern.specs.Priority.{priority, greedyAll, tooHigh, priorityOf, greedyOf}
 use Rattle.pattern.specs.Priced.{passes, answer, priced}
@@ -21,19 +23,19 @@ use Rattle.pattern.proofs.TooHigh.{too-high}
 module _ (w bytes : List ℕ) where
   pub no-tree : treeFits w bytes ≡ false → priority-answer.Refused 10 ≡ priorityOf w bytes
   unfolding priorityOf
-  no-tree e = rw e
+  no-tree e = rw (e, priorityOf)
 
   pub no-greedy-tree : treeFits w bytes ≡ false → greedy-answer.Refused 10 ≡ greedyOf w bytes
   unfolding greedyOf
-  no-greedy-tree e = rw e
+  no-greedy-tree e = rw (e, greedyOf)
 
   module _ (fits : treeFits w bytes ≡ true) where
     pub greedy-told : (b : Bool) → b ≡ greedyAll (root w bytes) → greedy-answer.Found b ≡ greedyOf w bytes
     unfolding greedyOf
-    greedy-told b e = rw (fits, e)
+    greedy-told b e = rw (fits, greedyOf) (ap {B = GreedyAnswer} greedy-answer.Found e)
 
-    pub root-held : Within w bytes (count w) × (0 < count w)
-    root-held = (record { fits = fits; below = omega arith }, tree-rules w bytes fits .some)
+    pub root-held : (widths : List ℕ) → widths ≡ tab 0 256 widthOf → Within w bytes widths (count w) × (0 < count w)
+    root-held widths e = (record { fits = fits; table = e; below = omega arith }, tree-rules w bytes fits .some)
 
     module _ (x : Priced) (is-root : x ≡ priced (treeAt w bytes (count w))) where
       -- a value where the root's tree passes no limit, and else none
@@ -50,12 +52,12 @@ module _ (w bytes : List ℕ) where
           go (no-is h) =
               let z : priced-as.Value v ≡ priced-as.Value (priority (root w bytes)) = sym e ∙ shown ∙ ap {B = Priced} (λ (b : Bool). answer b (priority (root w bytes))) h in
               let same : v ≡ priority (root w bytes) = cc in
-              rw (fits, h, same)
+              rw (fits, priorityOf, h) (ap {B = PriorityAnswer} priority-answer.Value same)
 
       pub overrun : x ≡ priced-as.Over → priority-answer.Refused 11 ≡ priorityOf w bytes
       unfolding priorityOf
       overrun e = go (is (tooHigh w bytes))
         where
           go : Is (tooHigh w bytes) → priority-answer.Refused 11 ≡ priorityOf w bytes
-          go (yes-is h) = rw (fits, h)
+          go (yes-is h) = rw (fits, priorityOf, h)
           go (no-is h) = let z : priced-as.Over ≡ priced-as.Value (priority (root w bytes)) = sym e ∙ shown ∙ ap {B = Priced} (λ (b : Bool). answer b (priority (root w bytes))) h in cc

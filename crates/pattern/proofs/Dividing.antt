@@ -11,13 +11,19 @@ use lib.Dec.{leb}
 use lib.ListN.{length, getD, drop, replicate, drop-of-length-le}
 use lib.Seq.{drop-cons}
 use borrow.Author.Tests.{le-leb, lt-leb}
+use Rattle.lists.specs.Lists.{tab}
 use Rattle.lists.proofs.Bools.{and-intro, and-right-false, none-some, some-inj}
+use Rattle.lists.proofs.Elements.{getD-tab0}
 use Rattle.pattern.specs.Utf8.{Range, span, within, trail, lines, lineOf, widthOf, oneMore, divided, codePoints}
 use Rattle.pattern.specs.Points.{lowOf, highOf}
 use Rattle.pattern.proofs.LeadBytes.{dueOf, lead-tail}
 use Rattle.pattern.proofs.Division.{begins, passed, let-through, one-less}
 
 -- ---- one byte
+
+-- its entry in the table
+pub width-at : (table : List ℕ) → table ≡ tab 0 256 widthOf → (b : ℕ) → b < 256 → getD table b 0 ≡ widthOf b
+width-at table e b h = rw e (getD-tab0 256 widthOf b 0 h)
 
 held-back : (t : Bool) (o : Option ℕ) → t ≡ false → _≡_ {A = Option ℕ} (elim t as (λ _. Option ℕ) [ true ↦ o | false ↦ none ]) none
 held-back true o e = absurd (false≢true (sym e))

@@ -7,7 +7,7 @@ use native.Mathlib.Omega.{arith}
 use lib.Dec.{eqb, leb, ltb}
 use lib.ListN.{length, getD, replicate}
 use borrow.Author.Tests.{eq-eqb, eqb-true, ltb-true, leb-true}
-use Rattle.lists.specs.Lists.{allL, eqList}
+use Rattle.lists.specs.Lists.{tab, allL, eqList}
 use Rattle.lists.proofs.Bools.{and-both, and-intro}
 use Rattle.lists.proofs.Disjunctions.{implied, any-at}
 use Rattle.lists.proofs.Elements.{Sound, list-sound, all-at}
@@ -17,22 +17,24 @@ use Rattle.pattern.specs.Points.{lowOf, highOf}
 
 -- ---- the table of widths
 
-unfoldable pub widths : List ℕ
-widths = replicate 128 1 ++ replicate 66 0 ++ replicate 30 2 ++ replicate 16 3 ++ replicate 5 4 ++ replicate 11 0
+unfoldable pub table : List ℕ
+table = replicate 128 1 ++ replicate 66 0 ++ replicate 30 2 ++ replicate 16 3 ++ replicate 5 4 ++ replicate 11 0
 
-right : ℕ → Bool
-right b = eqb (getD widths b 0) (widthOf b) && ltb (getD widths b 0) 5
+-- each entry is the width of its line
+pub table-right : table ≡ tab 0 256 widthOf
+unfolding table widthOf lines
+table-right = refl
 
-all-right : allL right (from 0 256) ≡ true
-unfolding right widths widthOf lines
-all-right = refl
+small : ℕ → Bool
+small b = ltb (widthOf b) 5
 
--- each entry is the width of its line of the table
-pub widths-right : (b : ℕ) → b < 256 → (getD widths b 0 ≡ widthOf b) × (getD widths b 0 < 5)
-unfolding right
-widths-right b h =
-    let both = and-both (eqb (getD widths b 0) (widthOf b)) _ (all-from right 256 0 all-right b (omega arith) (omega arith)) in
-    (eqb-true _ _ (both .0), ltb-true _ _ (both .1))
+all-small : allL small (from 0 256) ≡ true
+unfolding small widthOf lines
+all-small = refl
+
+pub width-small : (b : ℕ) → b < 256 → widthOf b < 5
+unfolding small
+width-small b h = ltb-true _ _ (all-from small 256 0 all-small b (omega arith) (omega arith))
 
 -- ---- equality of lines
 

@@ -17,28 +17,28 @@ use Rattle.pattern.proofs.TreeLaws.{RecordRules, rules-of, literal-insi
 
 -- ---- no record: the end of a chain
 
-pub least-none : {w bytes : List ℕ} {i : ℕ} → Within w bytes i → i ≡ 0 → pricedLeast (chainAt w bytes i) ≡ Value 0
+pub least-none : {w bytes widths : List ℕ} {i : ℕ} → Within w bytes widths i → i ≡ 0 → pricedLeast (chainAt w bytes i) ≡ Value 0
 unfolding chainAt
 least-none {w} {bytes} held e = rw e (ap pricedLeast (chain-none w bytes (held .fits) 0) ∙ least-done)
 
 -- ---- a record: r is number i of a tree that fits
 
-pub record Here (w bytes : List ℕ) (i : ℕ) (r : Record) : Type 0 where
-  pub held : Within w bytes i
+pub record Here (w bytes widths : List ℕ) (i : ℕ) (r : Record) : Type 0 where
+  pub held : Within w bytes widths i
   pub there : 0 < i
   pub is : r ≡ recordOf w i
 
-module _ {w bytes : List ℕ} {i : ℕ} {r : Record} (at : Here w bytes i r) where
+module _ {w bytes widths : List ℕ} {i : ℕ} {r : Record} (at : Here w bytes widths i r) where
   pub rules : RecordRules w (length bytes) i r
   rules = rw (at .is) (rules-of w bytes (at .held .fits) i (at .there) (at .held .below))
 
   -- ---- what is asked of the calls
 
-  pub child-held : Within w bytes (r .child)
-  child-held = record { fits = at .held .fits; below = omega (arith, rules .child, at .held .below) }
+  pub child-held : Within w bytes widths (r .child)
+  child-held = record { fits = at .held .fits; table = at .held .table; below = omega (arith, rules .child, at .held .below) }
 
-  pub next-held : Within w bytes (r .next)
-  next-held = record { fits = at .held .fits; below = omega (arith, rules .next, at .held .below) }
+  pub next-held : Within w bytes widths (r .next)
+  next-held = record { fits = at .held .fits; table = at .held .table; below = omega (arith, rules .next, at .held .below) }
 
   pub literal-asks : r .kind ≡ 1 → r .a + r .b ≤ length bytes
   literal-asks = rw (at .is) (literal-inside w bytes (at .held .fits) i (at .there) (at .held .below))

@@ -3,11 +3,14 @@ use mathlib.Core.Path.{_≡_}
 use mathlib.Core.Bool.{true}
 use mathlib.Core.List.{List}
 use Prim.Native.Nat.{ℕ, _≤_, _<_}
+use Rattle.lists.specs.Lists.{tab}
+use Rattle.pattern.specs.Utf8.{widthOf}
 use Rattle.pattern.specs.Tree.{count, recordOf, treeFits}
 
--- the words are a tree over these bytes, and i is at most its number of records
-pub record Within (w bytes : List ℕ) (i : ℕ) : Type 0 where
+-- the words are a tree over these bytes, these are the widths that lead bytes announce, and i is at most the number of records
+pub record Within (w bytes widths : List ℕ) (i : ℕ) : Type 0 where
   pub fits : treeFits w bytes ≡ true
+  pub table : widths ≡ tab 0 256 widthOf
   pub below : i ≤ count w
 
 -- there are at most 1,024 records, and each names lower ones

@@ -13,53 +13,55 @@ use crate::values::multiplied;
 ghost use mathlib.Core.Path.{_≡_};
 ghost use Prim.Native.Nat.{ℕ, _+_, _<_, _≤_};
 ghost use lib.ListN.{length, take, drop};
-ghost use Rattle.pattern.specs.Utf8.{codePoints};
+ghost use Rattle.lists.specs.Lists.{tab};
+ghost use Rattle.pattern.specs.Utf8.{widthOf, codePoints};
 ghost use Rattle.pattern.specs.Tree.{treeAt, chainAt};
 ghost use Rattle.pattern.specs.Priority.{literalValue};
 ghost use Rattle.pattern.specs.Priced.{priced, pricedSum, pricedLeast, capped};
 ghost use Rattle.pattern.specs.Held.{Within};
 
 // The value of the literal of b bytes from a.
-fn literal_value(bytes: &[u8], a: u32, b: u32) -> Priced
+fn literal_value(bytes: &[u8], widths: &[u8; 256], a: u32, b: u32) -> Priced
+    requires { ⌜ now widths ≡ tab 0 256 widthOf ⌝ }
     requires { ⌜ a + b ≤ length (now bytes) ⌝ }
     ensures { λ r. ⌜ r ≡ capped (literalValue (take b (drop a (now (bytes .entry)))) (codePoints (take b (drop a (now (bytes .entry)))))) ⌝ }
 {
     let from = a as usize;
     let to = from + (b as usize);
-    match code_points(&bytes[from..to]) {
+    match code_points(&bytes[from..to], widths) {
         Points::Count(n) => cap(2 * (n as u64)),
         Points::IllFormed => cap(2 * (b as u64)),
     }
 }
 
 // The value of record i.
-pub fn record_value(tree: &[u32], bytes: &[u8], i: usize) -> Priced
-    requires { ⌜ Within (now tree) (now bytes) i ⌝ }
+pub fn record_value(tree: &[u32], bytes: &[u8], widths: &[u8; 256], i: usize) -> Priced
+    requires { ⌜ Within (now tree) (now bytes) (now widths) i ⌝ }
     requires { ⌜ 0 < i ⌝ }
     ensures { λ r. ⌜ r ≡ priced (treeAt (now (tree .entry)) (now (bytes .entry)) i) ⌝ }
 {
     let r = record_at(tree, i);
     let kind = r.kind;
     match kind {
-        1 => literal_value(bytes, r.a, r.b),
+        1 => literal_value(bytes, widths, r.a, r.b),
         2 => Priced::Value(2),
-        4 => multiplied(r.a, record_value(tree, bytes, r.child)),
-        5 => record_value(tree, bytes, r.child),
-        6 => chain_sum(tree, bytes, r.child),
-        7 => chain_least(tree, bytes, r.child),
+        4 => multiplied(r.a, record_value(tree, bytes, widths, r.child)),
+        5 => record_value(tree, bytes, widths, r.child),
+        6 => chain_sum(tree, bytes, widths, r.child),
+        7 => chain_least(tree, bytes, widths, r.child),
         _ => Priced::Value(0),
     }
 }
 
 // The sum over the chain that begins at record first; 0: there is none.
-fn chain_sum(tree: &[u32], bytes: &[u8], first: usize) -> Priced
-    requires { ⌜ Within (now tree) (now bytes) first ⌝ }
+fn chain_sum(tree: &[u32], bytes: &[u8], widths: &[u8; 256], first: usize) -> Priced
+    requires { ⌜ Within (now tree) (now bytes) (now widths) first ⌝ }
     ensures { λ r. ⌜ r ≡ pricedSum (chainAt (now (tree .entry)) (now (bytes .entry)) first) ⌝ }
 {
     let mut total = Priced::Value(0);
     let mut i = first;
     while i != 0 {
-        let value = record_value(tree, bytes, i);
+        let value = record_value(tree, bytes, widths, i);
         total = added(total, value);
         i = record_at(tree, i).next;
     }
@@ -67,17 +69,17 @@ fn chain_sum(tree: &[u32], bytes: &[u8], first: usize) -> Priced
 }
 
 // The least in the chain that begins at record first; 0: there is none.
-fn chain_least(tree: &[u32], bytes: &[u8], first: usize) -> Priced
-    requires { ⌜ Within (now tree) (now bytes) first ⌝ }
+fn chain_least(tree: &[u32], bytes: &[u8], widths: &[u8; 256], first: usize) -> Priced
+    requires { ⌜ Within (now tree) (now bytes) (now widths) first ⌝ }
     ensures { λ r. ⌜ r ≡ pricedLeast (chainAt (now (tree .entry)) (now (bytes .entry)) first) ⌝ }
 {
     if first == 0 {
         return Priced::Value(0);
     }
-    let mut least = record_value(tree, bytes, first);
+    let mut least = record_value(tree, bytes, widths, first);
     let mut i = record_at(tree, first).next;
     while i != 0 {
-        let value = record_value(tree, bytes, i);
+        let value = record_value(tree, bytes, widths, i);
         least = least_of(least, value);
         i = record_at(tree, i).next;
     }

@@ -1,7 +1,7 @@
 // The code points of a text, if it is well-formed UTF-8 (Unicode, Table 3-7).
-use crate::widths::width;
 ghost use mathlib.Core.Path.{_≡_};
-ghost use Rattle.pattern.specs.Utf8.{codePoints};
+ghost use Rattle.lists.specs.Lists.{tab};
+ghost use Rattle.pattern.specs.Utf8.{widthOf, codePoints};
 ghost use Rattle.pattern.specs.Points.{pointsOf, lowOf, highOf};
 
 pub enum Points {
@@ -36,7 +36,8 @@ fn second_high(lead: u8) -> u8
 }
 
 // The number of sequences that a text divides into; `due` bytes of the last one begun are still to come, the next of them in low..high.
-pub fn code_points(text: &[u8]) -> Points
+pub fn code_points(text: &[u8], widths: &[u8; 256]) -> Points
+    requires { ⌜ now widths ≡ tab 0 256 widthOf ⌝ }
     ensures { λ r. ⌜ r ≡ pointsOf (codePoints (now (text .entry))) ⌝ }
 {
     let mut n: usize = 0;
@@ -48,7 +49,7 @@ pub fn code_points(text: &[u8]) -> Points
         let b = text[i];
         i += 1;
         if due == 0 {
-            let w = width(b);
+            let w = widths[b as usize] as usize;
             if w == 0 {
                 return Points::IllFormed;
             }

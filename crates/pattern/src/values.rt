@@ -7,6 +7,7 @@ pub enum Priced {
     Over,
 }
 
+// A value, or over.
 pub fn cap(v: u64) -> Priced
     ensures { λ r. ⌜ r ≡ capped v ⌝ }
 {
@@ -16,15 +17,17 @@ pub fn cap(v: u64) -> Priced
     Priced::Value(v as u32)
 }
 
-pub fn multiplied(m: u32, p: Priced) -> Priced
-    ensures { λ r. ⌜ r ≡ times m p ⌝ }
+// Of a repetition. What is over below it stays so, whatever its min.
+pub fn multiplied(min: u32, inner: Priced) -> Priced
+    ensures { λ r. ⌜ r ≡ times min inner ⌝ }
 {
-    match p {
-        Priced::Value(v) => cap((m as u64) * (v as u64)),
-        Priced::Over => Priced::Over,
+    match inner {
+        Priced::Value(v) => cap((min as u64) * (v as u64)),
+        Priced::Over => inner,
     }
 }
 
+// Of the parts of a concat.
 pub fn added(p: Priced, q: Priced) -> Priced
     ensures { λ r. ⌜ r ≡ plus p q ⌝ }
 {
@@ -37,6 +40,7 @@ pub fn added(p: Priced, q: Priced) -> Priced
     }
 }
 
+// Of the parts of an alternation. What is over is told, also where it is not the least.
 pub fn least_of(p: Priced, q: Priced) -> Priced
     ensures { λ r. ⌜ r ≡ lesser p q ⌝ }
 {

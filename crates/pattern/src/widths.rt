@@ -1,5 +1,6 @@
 // The widths that lead bytes announce (Unicode, Table 3-7): one entry a byte; 0: no sequence begins with it.
 ghost use mathlib.Core.Path.{_≡_};
+ghost use Rattle.lists.specs.Lists.{tab};
 ghost use Rattle.pattern.specs.Utf8.{widthOf};
 
 const WIDTHS: [u8; 256] = [
@@ -267,9 +268,9 @@ const WIDTHS: [u8; 256] = [
     0,
 ];
 
-// The width that a lead byte announces.
-pub fn width(lead: u8) -> usize
-    ensures { λ r. ⌜ r ≡ widthOf lead ⌝ }
+// The table, to be lent: a constant that is read in place is laid out anew at each reading.
+pub fn widths() -> [u8; 256]
+    ensures { λ r. ⌜ r ≡ tab 0 256 widthOf ⌝ }
 {
-    WIDTHS[lead as usize] as usize
+    WIDTHS
 }

@@ -6,15 +6,22 @@ use mathlib.Core.Option.{Option·getD}
 use mathlib.Core.Logic.{⊎-elim}
 use Prim.Native.Nat.{ℕ, zero, suc, _+_, _*_, _-_, _/_, _%_, _≤_, _<_}
 use native.Mathlib.Omega.{arith}
-use lib.ListN.{length, getD, take, drop, replicate, take-append-drop, getD-replicate, replicate-append-replicate, List·getD-append}
-use lib.Seq.{ext-getD, length-take-le, getD-take, getD-append-add, drop-at}
+use lib.ListN.{length, getD, take, drop, length-drop, replicate, take-append-drop, getD-replicate, replicate-append-replicate, List·getD-append}
+use lib.Seq.{ext-getD, length-take-le, getD-take, getD-drop, getD-append-add, drop-at}
 use Rattle.lists.proofs.Bools.{lt-or-le}
 use Rattle.rules.specs.Graph.{Graph, to, acceptOf, earlyOf, graphFrom, graphFits, graphWords, graphBuffer}
 use Rattle.rules.proofs.Fits.{Fits}
 use Rattle.rules.proofs.Flat.{target-word, marks-word}
 use Rattle.rules.proofs.Taken.{taken-long, taken-few}
-use Rattle.rules.proofs.Words.{words-length, buffer-length}
+use Rattle.rules.proofs.Words.{words-length, buffer-length, words-taken, graph-back}
 use Rattle.rewrite.proofs.Read.{from-length, target-is, accept-is, early-is, taken-fits}
+
+-- ---- words that are the same from some place on
+
+pub same-after : (a : ℕ) (v w : List ℕ) → length w ≡ length v → ((i : ℕ) → a ≤ i → getD w i 0 ≡ getD v i 0) → drop a w ≡ drop a v
+same-after a v w len same =
+    ext-getD 0 (drop a w) (drop a v) (length-drop a w ∙ rw len (sym (length-drop a v)))
+    (λ i h. getD-drop a w i 0 ∙ same (a + i) (omega arith) ∙ sym (getD-drop a v i 0))
 
 -- ---- words that are a graph's buffer
 
@@ -68,6 +75,18 @@ module _ (m n : ℕ) (leaves : m ≤ 255) (states : n ≤ 1024) (g : Graph) (f :
         getD-take (2 + 258 * n) w i 0 h′
         ∙ ⊎-elim (λ l. word i l ∙ sym (front i l)) (λ l. zeros-are i l h′ ∙ sym (back i l h′)) (lt-or-le i (2 + 258 * count))) in
         sym (take-append-drop (2 + 258 * n) w) ∙ ap (λ (x : List ℕ). x ++ drop (2 + 258 * n) w) same
+
+-- refusal 12 takes a buffer
+pub buffer-taken : (m n : ℕ) → m ≤ 255 → n ≤ 1024 → (g : Graph) → Fits m n g → (rest : List ℕ) → graphFits (graphBuffer n g ++ rest) ≡ true
+unfolding graphBuffer
+buffer-taken m n leaves states g f rest =
+    rw (append-assoc (graphWords g) (replicate (258 * (n - length (g .states))) 0) rest) (words-taken m n leaves states g f (replicate (258 * (n - length (g .states))) 0 ++ rest))
+
+-- and it is read back
+pub buffer-back : (m n : ℕ) → m ≤ 255 → n ≤ 1024 → (g : Graph) → Fits m n g → (rest : List ℕ) → graphFrom (graphBuffer n g ++ rest) ≡ g
+unfolding graphBuffer
+buffer-back m n leaves states g f rest =
+    rw (append-assoc (graphWords g) (replicate (258 * (n - length (g .states))) 0) rest) (graph-back m n leaves states g f (replicate (258 * (n - length (g .states))) 0 ++ rest))
 
 -- the words that are taken are those of the graph that they hold
 pub taken-words : (w : List ℕ) → graphFits w ≡ true → ((i : ℕ) → getD w i 0 < 65536)

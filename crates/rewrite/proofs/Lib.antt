@@ -7,3 +7,10 @@ pub mod Edges
 pub mod Parents
 pub mod BitRows
 pub mod Backward
+pub mod Rows
+pub mod Packing
+pub mod Naming
+pub mod Pruning
+pub mod Twins
+pub mod Grouping
+pub mod Rounds

@@ -8,13 +8,13 @@ use Prim.Native.Nat.{ℕ, _+_, _*_, _≤_, _<_}
 use native.Mathlib.Nat.{not-suc-le-zero}
 use native.Mathlib.Omega.{arith}
 use borrow.Author.Count.{below-more}
-use lib.ListN.{length, getD, set, drop, length-set, length-drop}
-use lib.Seq.{ext-getD, getD-drop, getD-set-same, getD-set-other}
+use lib.ListN.{length, getD, set, drop, length-set}
+use lib.Seq.{getD-set-same, getD-set-other}
 use Rattle.rules.specs.Graph.{Graph, to, acceptOf, earlyOf, graphFrom, graphFits, graphBuffer}
 use Rattle.rules.proofs.Fits.{Fits}
 use Rattle.rules.proofs.Taken.{taken-long, taken-few, taken-root, taken-target}
 use Rattle.rewrite.proofs.Read.{words-fit, target-is}
-use Rattle.rewrite.proofs.Buffers.{written}
+use Rattle.rewrite.proofs.Buffers.{same-after, written}
 
 -- w₀: the words at the beginning; mark: the new marks word of each state; s: the states passed
 pub record Marked (w₀ : List ℕ) (mark : ℕ → ℕ) (s : ℕ) (w : List ℕ) : Type 0 where
@@ -75,10 +75,7 @@ module _ (w₀ : List ℕ) (taken : graphFits w₀ ≡ true) (mark : ℕ → ℕ
 
   -- the words after the last state stay, whatever their number
   marked-rest : s ≡ n → drop (2 + 258 * n) w ≡ drop (2 + 258 * n) w₀
-  marked-rest all =
-      ext-getD 0 (drop (2 + 258 * n) w) (drop (2 + 258 * n) w₀) (length-drop (2 + 258 * n) w ∙ rw (m .len) (sym (length-drop (2 + 258 * n) w₀)))
-      (λ i l.
-      getD-drop (2 + 258 * n) w i 0 ∙ m .other (2 + 258 * n + i) (λ k b q. omega arith) ∙ sym (getD-drop (2 + 258 * n) w₀ i 0))
+  marked-rest all = same-after (2 + 258 * n) w₀ w (m .len) (λ i h. m .other i (λ k b q. omega arith))
 
   -- when all are passed: the buffer of a graph with the same edges and the new marks
   pub marked-all : s ≡ getD w₀ 0 0 → (g : Graph) → Fits 255 n g → length (g .states) ≡ getD w₀ 0 0 → g .root ≡ getD w₀ 1 0

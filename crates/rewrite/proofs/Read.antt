@@ -6,7 +6,7 @@ use mathlib.Core.Option.{Option, none, some, Option·getD}
 use mathlib.Core.Logic.{_⊎_, ⊎-elim}
 use Prim.Native.Nat.{ℕ, _+_, _*_, _/_, _%_, _≤_, _<_}
 use native.Mathlib.Omega.{arith}
-use borrow.Author.Tests.{eqb-true, eq-eqb, le-leb, lt-ltb}
+use borrow.Author.Tests.{eqb-true, eq-eqb, ne-eqb, le-leb, lt-ltb}
 use lib.Dec.{eqb, ltb}
 use lib.ListN.{length, getD, take, drop, length-map, List·getD-eq-default}
 use lib.Seq.{length-take-le, getD-take}
@@ -32,6 +32,9 @@ module _ (none-word x : ℕ) where
 
   pub or-none : x ≡ none-word → orNone none-word x ≡ none
   or-none e = rw (eq-eqb x none-word e)
+
+  pub or-number : (x ≡ none-word → ⊥) → orNone none-word x ≡ some x
+  or-number n = rw (ne-eqb x none-word n)
 
   -- a number is not the word for none
   pub or-some : (u : ℕ) → orNone none-word x ≡ some u → (x ≡ u) × (x ≡ none-word → ⊥)

@@ -1,1 +1,3 @@
 pub mod Matrix
+pub mod Names
+pub mod Equals

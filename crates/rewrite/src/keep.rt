@@ -1,17 +1,19 @@
 // Rule 7: the states that are kept.
 use super::bits::test_bit;
 use super::bits::with_bit;
+use super::relabel::numbered;
+use super::relabel::relabel;
 use super::views::target;
 use super::views::word_of;
 use words::word;
 ghost use mathlib.Core.Path.{_≡_};
 ghost use mathlib.Core.Bool.{true, false, _||_};
 ghost use mathlib.Core.List.{_++_};
-ghost use Prim.Native.Nat.{ℕ, _-_, _<_};
+ghost use Prim.Native.Nat.{ℕ, _+_, _*_, _-_, _<_};
 ghost use lib.Dec.{eqb};
-ghost use lib.ListN.{getD, replicate};
-ghost use Rattle.rules.specs.Graph.{graphFits, graphFrom, stateOf, leads};
-ghost use Rattle.rules.specs.Build.{kept, marked};
+ghost use lib.ListN.{getD, drop, replicate};
+ghost use Rattle.rules.specs.Graph.{graphFits, graphFrom, graphBuffer, stateOf, leads};
+ghost use Rattle.rules.specs.Build.{kept, marked, pruned};
 ghost use Rattle.rewrite.specs.Matrix.{bitAt};
 
 // The parents of every state, by byte and end edges: bit p of row t is set if state p leads to state t.
@@ -89,4 +91,15 @@ pub fn kept(graph: &[u16]) -> [bool; 1024]
         }
     }
     out
+}
+
+// Drops the states that are not kept; the others keep their order.
+pub fn prune(graph: &mut [u16])
+    requires { ⌜ graphFits (now graph) ≡ true ⌝ }
+    ensures { λ _. ⌜ now (graph .exit) ≡ graphBuffer (getD (now (graph .entry)) 0 0) (pruned (graphFrom (now (graph .entry)))) ++ drop (2 + 258 * getD (now (graph .entry)) 0 0) (now (graph .entry)) ⌝ }
+    ensures { λ _. ⌜ graphFits (now (graph .exit)) ≡ true ⌝ }
+{
+    let keep = kept(graph);
+    let names = numbered(&keep);
+    relabel(graph, &names, &keep);
 }

@@ -4,4 +4,6 @@ pub mod bits;
 pub mod clear;
 pub mod early;
 pub mod keep;
+pub mod merge;
+pub mod relabel;
 pub mod views;

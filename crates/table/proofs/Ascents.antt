@@ -1,8 +1,8 @@
 -- In a legal table the leaves of a chain rise strictly and are below m, so a chain, and a tie, has at most 255 of them. By induction along the
 -- chain, whose record numbers fall. Assumes nothing.
-use mathlib.Core.Path.{_≡_, refl, sym, ap, subst, _∙_}
-use mathlib.Core.Bool.{Bool, true, _&&_}
-use mathlib.Core.List.{List, [], _∷_, map}
+use mathlib.Core.Path.{_≡_, refl, sym}
+use mathlib.Core.Bool.{true}
+use mathlib.Core.List.{List, map}
 use mathlib.Core.Logic.{_⊎_, inl, inr, ⊎-elim}
 use Prim.Native.Nat.{ℕ, zero, suc, _≤_, _<_}
 use native.Mathlib.Omega.{arith}
@@ -15,7 +15,7 @@ use Rattle.lists.proofs.Elements.{eqb-sound}
 use Rattle.lists.proofs.Distinct.{those-keep}
 use Rattle.lists.proofs.Rising.{Rising, rising-nil, rising-cons, rising-those, rising-few}
 use Rattle.rules.specs.Table.{Table, tableOf, rowOf, matchOf, refusal}
-use Rattle.rules.specs.Build.{chainFrom, chain, contenders}
+use Rattle.rules.specs.Build.{chain, contenders}
 use Rattle.table.specs.Chains.{records, priorityAt, tieFrom, topOf}
 use Rattle.table.proofs.Records.{sizes, head-below, leaf-below, next-below, leaf-rises}
 use Rattle.table.proofs.Contenders.{leafOfRecord, priorityOf, chain-from, those-leaf, records-end, records-step, contenders-top, top-low}

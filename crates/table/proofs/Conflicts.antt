@@ -1,86 +1,89 @@
 -- Which states of a set are tied, counted from the last state down, and how many words their errors take. Sorting changes neither number. Assumes nothing.
 use mathlib.Core.Path.{_≡_, refl, sym, ap, _∙_}
-use mathlib.Core.Bool.{Bool, true, false, false≢true}
-use mathlib.Core.List.{List, [], _∷_, _++_, map, flatMap}
-use Prim.Native.Nat.{ℕ, zero, suc, _+_, _-_, _*_, _≤_, _<_, zero-le, suc-le-suc}
-use native.Mathlib.Nat.{not-suc-le-zero, le-of-suc-le-suc}
+use mathlib.Core.Bool.{Bool, true, false, _&&_}
+use mathlib.Core.List.{List, [], _∷_, map, flatMap}
+use Prim.Native.Nat.{ℕ, suc, _+_, _-_, _*_, _≤_, _<_}
 use native.Mathlib.Omega.{arith}
 use borrow.Author.Tests.{leb-true, le-leb, lt-leb}
 use lib.Dec.{leb}
 use lib.ListN.{length, getD, take, drop, length-map, length-append}
 use Rattle.lists.specs.Lists.{tab, below, those, select, sorted}
-use Rattle.lists.proofs.Bools.{Is, is, yes-is, no-is}
+use Rattle.lists.proofs.Bools.{Is, is, yes-is, no-is, and-both, and-intro, and-right-false}
 use Rattle.lists.proofs.Elements.{length-tab}
 use Rattle.lists.proofs.Selections.{select-in, select-out, select-none, select-take}
 use Rattle.lists.proofs.Sorted.{total, sorted-total, sorted-length}
-use Rattle.rules.specs.Table.{Table, tableOf, size, matchOf, refusal}
+use Rattle.rules.specs.Table.{Table, tableOf, refusal}
 use Rattle.rules.specs.Build.{contenders, Error, disambiguation, errorWords, ties}
 use Rattle.rules.proofs.Shape.{size-is}
 use Rattle.table.specs.Chains.{topOf, nextTied, tieFrom}
 use Rattle.table.specs.Slots.{tiedAt}
 use Rattle.table.proofs.Contenders.{contenders-top, tie-end, tie-step, next-tied-low, top-low}
 
--- ---- a state that is tied
+-- ---- a state of a set that is tied
 
-module _ (w : List ℕ) (legal : refusal w ≡ 0) (s : ℕ) where
+module _ (w : List ℕ) (legal : refusal w ≡ 0) (set : List Bool) (s : ℕ) where
   abbrev t : Table
   t = tableOf w
 
   abbrev number : ℕ
   number = length (contenders t s)
 
-  tied-if : leb 2 number ≡ true → tiedAt t s ≡ topOf t s
+  abbrev tied : Bool
+  tied = getD set s false && leb 2 number
+
+  tied-if : tied ≡ true → tiedAt t set s ≡ topOf t s
   unfolding tiedAt
   tied-if q = rw (q, tiedAt)
 
-  tied-not : leb 2 number ≡ false → tiedAt t s ≡ 0
+  tied-not : tied ≡ false → tiedAt t set s ≡ 0
   unfolding tiedAt
   tied-not q = rw (q, tiedAt)
 
-  -- by the two records that a walk looks at
-  pub tied-none : topOf t s ≡ 0 → tiedAt t s ≡ 0
-  tied-none e = tied-not (lt-leb 2 number (let l = ap length (contenders-top w legal s ∙ ap (tieFrom t) e ∙ tie-end w legal) in omega arith))
+  -- by its flag and the two records that a walk looks at
+  pub tied-out : getD set s false ≡ false → tiedAt t set s ≡ 0
+  tied-out o = tied-not (ap (λ (b : Bool). b && leb 2 number) o)
+
+  pub tied-none : topOf t s ≡ 0 → tiedAt t set s ≡ 0
+  tied-none e =
+      let l = ap length (contenders-top w legal s ∙ ap (tieFrom t) e ∙ tie-end w legal) in
+      tied-not (and-right-false (getD set s false) (leb 2 number) (lt-leb 2 number (omega arith)))
 
   module _ (some-top : 0 < topOf t s) where
     tie-longer : number ≡ suc (length (tieFrom t (nextTied t (topOf t s))))
     tie-longer = ap length (contenders-top w legal s ∙ tie-step w legal (topOf t s) some-top (top-low w legal s))
 
-    pub tied-one : nextTied t (topOf t s) ≡ 0 → tiedAt t s ≡ 0
-    tied-one e = tied-not (lt-leb 2 number (let a = tie-longer in let l = ap length (ap (tieFrom t) e ∙ tie-end w legal) in omega arith))
+    pub tied-one : nextTied t (topOf t s) ≡ 0 → tiedAt t set s ≡ 0
+    tied-one e =
+        let a = tie-longer in
+        let l = ap length (ap (tieFrom t) e ∙ tie-end w legal) in
+        tied-not (and-right-false (getD set s false) (leb 2 number) (lt-leb 2 number (omega arith)))
 
-    pub tied-two : 0 < nextTied t (topOf t s) → tiedAt t s ≡ topOf t s
-    tied-two a =
+    pub tied-two : getD set s false ≡ true → 0 < nextTied t (topOf t s) → tiedAt t set s ≡ topOf t s
+    tied-two m a =
         let i = nextTied t (topOf t s) in
         let b = next-tied-low w legal (topOf t s) some-top (top-low w legal s) in
         let r = top-low w legal s in
         let l = ap length (tie-step w legal i a (omega arith)) in
         let e = tie-longer in
-        tied-if (le-leb 2 number (omega arith))
+        tied-if (and-intro (getD set s false) (leb 2 number) m (le-leb 2 number (omega arith)))
 
   -- what it tells of the contenders
-  pub tied-yes : 0 < tiedAt t s → (leb 2 number ≡ true) × (contenders t s ≡ tieFrom t (tiedAt t s))
-  tied-yes a = go (is (leb 2 number))
+  pub tied-yes : 0 < tiedAt t set s → (tied ≡ true) × (contenders t s ≡ tieFrom t (tiedAt t set s))
+  tied-yes a = go (is tied)
     where
-      go : Is (leb 2 number) → (leb 2 number ≡ true) × (contenders t s ≡ tieFrom t (tiedAt t s))
+      go : Is tied → (tied ≡ true) × (contenders t s ≡ tieFrom t (tiedAt t set s))
       go (yes-is q) = (q, contenders-top w legal s ∙ ap (tieFrom t) (sym (tied-if q)))
       go (no-is q) = let e = tied-not q in absurd (omega arith)
 
-  pub tied-no : tiedAt t s ≡ 0 → leb 2 number ≡ false
-  tied-no e = go (is (leb 2 number))
+  pub tied-no : tiedAt t set s ≡ 0 → tied ≡ false
+  tied-no e = go (is tied)
     where
-      go : Is (leb 2 number) → leb 2 number ≡ false
+      go : Is tied → tied ≡ false
       go (no-is q) = q
       go (yes-is q) =
           let l = ap length (contenders-top w legal s ∙ ap (tieFrom t) (sym (tied-if q) ∙ e) ∙ tie-end w legal) in
-          let h = leb-true 2 number q in
+          let h = leb-true 2 number (and-both (getD set s false) (leb 2 number) q .1) in
           absurd (omega arith)
-
-  pub tied-low : tiedAt t s ≤ getD w 3 0
-  tied-low = go (is (leb 2 number))
-    where
-      go : Is (leb 2 number) → tiedAt t s ≤ getD w 3 0
-      go (yes-is q) = let e = tied-if q in let r = top-low w legal s in omega arith
-      go (no-is q) = let e = tied-not q in omega arith
 
 -- ---- the ties of a set of the n states, from state s on
 
@@ -103,18 +106,19 @@ module _ (t : Table) (n : ℕ) (set : List Bool) where
     on : tab s (n - s) (λ i. i) ≡ s ∷ tab (suc s) (n - suc s) (λ i. i)
     on = let e : n - s ≡ suc (n - suc s) = omega arith in ap (λ (k : ℕ). tab s k (λ i. i)) e
 
-    pub ties-out : getD set s false ≡ false → tiesOn t n set s ≡ tiesOn t n set (suc s)
+    pub ties-pass : (getD set s false && leb 2 (length (contenders t s))) ≡ false → tiesOn t n set s ≡ tiesOn t n set (suc s)
     unfolding tiesOn
-    ties-out o = rw (on, select-out set s s (tab (suc s) (n - suc s) (λ i. i)) o)
+    ties-pass q = go (is (getD set s false))
+      where
+        go : Is (getD set s false) → tiesOn t n set s ≡ tiesOn t n set (suc s)
+        go (no-is o) = rw (on, select-out set s s (tab (suc s) (n - suc s) (λ i. i)) o)
+        go (yes-is m) = rw (on, select-in set s s (tab (suc s) (n - suc s) (λ i. i)) m) (rw (rw m at q, those))
 
-    module _ (m : getD set s false ≡ true) where
-      pub ties-free : leb 2 (length (contenders t s)) ≡ false → tiesOn t n set s ≡ tiesOn t n set (suc s)
-      unfolding tiesOn
-      ties-free q = rw (on, select-in set s s (tab (suc s) (n - suc s) (λ i. i)) m) (rw (q, those))
-
-      pub ties-more : leb 2 (length (contenders t s)) ≡ true → tiesOn t n set s ≡ contenders t s ∷ tiesOn t n set (suc s)
-      unfolding tiesOn
-      ties-more q = rw (on, select-in set s s (tab (suc s) (n - suc s) (λ i. i)) m) (rw (q, those))
+    pub ties-more : (getD set s false && leb 2 (length (contenders t s))) ≡ true → tiesOn t n set s ≡ contenders t s ∷ tiesOn t n set (suc s)
+    unfolding tiesOn
+    ties-more q =
+        let (m, r) = and-both (getD set s false) (leb 2 (length (contenders t s))) q in
+        rw (on, select-in set s s (tab (suc s) (n - suc s) (λ i. i)) m) (rw (r, those))
 
 -- ---- all of them, sorted, as errors
 
@@ -156,18 +160,15 @@ module _ (w : List ℕ) (legal : refusal w ≡ 0) (set : List Bool) (s : ℕ) (s
   back : tiesOn (tableOf w) (getD w 0 0) set (suc (s - 1)) ≡ here
   back = let e : suc (s - 1) ≡ s = omega arith in ap (tiesOn (tableOf w) (getD w 0 0) set) e
 
-  pub down-out : getD set (s - 1) false ≡ false → down ≡ here
-  down-out o = ties-out (tableOf w) (getD w 0 0) set (s - 1) (omega arith) o ∙ back
-
-  module _ (m : getD set (s - 1) false ≡ true) (i : ℕ) (at : i ≡ tiedAt (tableOf w) (s - 1)) where
+  module _ (i : ℕ) (at : i ≡ tiedAt (tableOf w) set (s - 1)) where
     pub down-free : i ≡ 0 → down ≡ here
-    down-free z = ties-free (tableOf w) (getD w 0 0) set (s - 1) (omega arith) m (tied-no w legal (s - 1) (sym at ∙ z)) ∙ back
+    down-free z = ties-pass (tableOf w) (getD w 0 0) set (s - 1) (omega arith) (tied-no w legal set (s - 1) (sym at ∙ z)) ∙ back
 
     pub down-tied : (i ≡ 0 → ⊥) → down ≡ tieFrom (tableOf w) i ∷ here
     down-tied z =
-        let (q, e) = tied-yes w legal (s - 1) (omega (arith, z)) in
+        let (q, e) = tied-yes w legal set (s - 1) (omega (arith, z)) in
         let r : contenders (tableOf w) (s - 1) ≡ tieFrom (tableOf w) i = e ∙ ap (tieFrom (tableOf w)) (sym at) in
-        ties-more (tableOf w) (getD w 0 0) set (s - 1) (omega arith) m q ∙ (let b = back in cc)
+        ties-more (tableOf w) (getD w 0 0) set (s - 1) (omega arith) q ∙ (let b = back in cc)
 
 -- ---- counted from the last state down to s
 

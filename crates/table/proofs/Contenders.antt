@@ -1,7 +1,6 @@
 -- A state's contenders are the tie that begins at its top record, and a tie goes on at its next record: by induction along a chain, whose record numbers
 -- fall. Assumes nothing.
 use mathlib.Core.Path.{_≡_, refl, sym, ap, _∙_}
-use mathlib.Core.Bool.{Bool, true, false}
 use mathlib.Core.List.{List, [], _∷_, map, map-map}
 use mathlib.Core.Option.{none, some}
 use mathlib.Core.Logic.{_⊎_, inl, inr, ⊎-elim}

@@ -1,8 +1,7 @@
 -- The words of a conflict list, from one of its errors on: that error's, and those of the rest. Assumes nothing.
 use mathlib.Core.Path.{_≡_, refl, sym, ap, _∙_}
-use mathlib.Core.Bool.{Bool, true, false}
 use mathlib.Core.List.{List, [], _∷_, _++_, map, flatMap}
-use Prim.Native.Nat.{ℕ, zero, suc, _+_, _-_, _*_, _≤_, _<_}
+use Prim.Native.Nat.{ℕ, suc, _+_, _-_, _*_, _≤_, _<_}
 use native.Mathlib.Numerals.{add-one}
 use native.Mathlib.Omega.{arith}
 use borrow.Author.Tests.{eq-eqb, ne-eqb}
@@ -16,7 +15,7 @@ use Rattle.rules.specs.Table.{Table, tableOf, leafAt, refusal}
 use Rattle.rules.specs.Build.{Error, emptyMatch, disambiguation, errorWords, emptyLeaves}
 use Rattle.table.specs.Chains.{tieFrom}
 use Rattle.table.specs.Listed.{listed}
-use Rattle.table.proofs.Records.{leaves-are}
+use Rattle.table.proofs.Counts.{leaves-length}
 
 -- a list's words, all written from the front
 pub run-listed : (errors : List Error) {words found out rest : List ℕ} {at : ℕ} → words ≡ flatMap errorWords errors → rest ≡ []
@@ -70,7 +69,7 @@ module _ (t : Table) (m : ℕ) where
 
 pub empties-all : (w : List ℕ) (legal : refusal w ≡ 0) → emptiesOn (tableOf w) (getD w 2 0) 0 ≡ emptyLeaves (tableOf w)
 unfolding emptiesOn emptyLeaves
-empties-all w legal = let e : getD w 2 0 - 0 ≡ getD w 2 0 = omega arith in rw (leaves-are w legal, e)
+empties-all w legal = let e : getD w 2 0 - 0 ≡ getD w 2 0 = omega arith in rw (leaves-length w, e)
 
 -- three words a leaf
 pub empty-words : (l : List ℕ) → length (flatMap errorWords (map emptyMatch l)) ≡ 3 * length l

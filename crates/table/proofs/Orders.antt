@@ -1,5 +1,5 @@
 -- The ties of a set put in order from the last state down: the records that are held so far begin the sorted ties of the states passed. Assumes nothing.
-use mathlib.Core.Path.{_≡_, refl, sym, ap, subst, subst₂, _∙_}
+use mathlib.Core.Path.{_≡_, sym, ap, subst₂, _∙_}
 use mathlib.Core.Bool.{Bool, true}
 use mathlib.Core.List.{List, [], _∷_, map}
 use Prim.Native.Nat.{ℕ, _+_, _-_, _≤_, _<_}
@@ -11,12 +11,12 @@ use Rattle.lists.specs.Lists.{before, insert, sorted}
 use Rattle.lists.proofs.Elements.{map-at}
 use Rattle.lists.proofs.Sorted.{Ordered, sorted-ordered, ordered-at}
 use Rattle.rules.specs.Table.{tableOf, refusal}
-use Rattle.rules.specs.Build.{Error, disambiguation, ties}
+use Rattle.rules.specs.Build.{disambiguation, ties}
 use Rattle.table.specs.Chains.{tieFrom}
 use Rattle.table.specs.Slots.{slot, putIn, Held, InOrder}
 use Rattle.table.proofs.Conflicts.{tiesOn, ties-end, ties-sorted}
 use Rattle.table.proofs.Records.{sizes}
-use Rattle.table.proofs.Slotted.{slot-low, put-length, put-insert, put-held}
+use Rattle.table.proofs.Slotted.{put-length, put-insert, put-held}
 
 pub record Sorting (w : List ℕ) (set : List Bool) (s : ℕ) (order : List ℕ) (count : ℕ) : Type 0 where
   pub inside : s ≤ getD w 0 0
@@ -63,15 +63,6 @@ module _ (w : List ℕ) (legal : refusal w ≡ 0) (set : List Bool) (s : ℕ) (o
           (ordered-at (map tie (take count order)) sort i j h
           (let e = length-take-le count order (omega arith) in let d = length-map (take count order) tie in omega arith))
 
-  pub sorting-place : (i p : ℕ) → p ≡ slot (tie i) (map tie (take count order)) → p ≤ count
-  sorting-place i p q =
-      let l = c .long in
-      let f = sorting-few in
-      let low = slot-low (tie i) (map tie (take count order)) in
-      let n = length-map (take count order) tie in
-      let m = length-take-le count order (omega arith) in
-      omega arith
-
   -- a state that is not tied, and one that is
   module _ (some : 0 < s) where
     pub sorting-pass : tiesOn (tableOf w) (getD w 0 0) set (s - 1) ≡ tiesOn (tableOf w) (getD w 0 0) set s → Sorting w set (s - 1) order count
@@ -80,15 +71,14 @@ module _ (w : List ℕ) (legal : refusal w ≡ 0) (set : List Bool) (s : ℕ) (o
         let f = c .few in
         record { inside = omega arith; few = omega arith; long = c .long; held = c .held; ties = c .ties ∙ ap sorted (sym e) }
 
-    pub sorting-more : (i p : ℕ) → i ≤ getD w 3 0 → p ≡ slot (tie i) (map tie (take count order))
+    pub sorting-more : (i p : ℕ) → i ≤ getD w 3 0 → p ≡ slot (tie i) (map tie (take count order)) → p ≤ count
         → tiesOn (tableOf w) (getD w 0 0) set (s - 1) ≡ tie i ∷ tiesOn (tableOf w) (getD w 0 0) set s
         → Sorting w set (s - 1) (putIn order count p i) (count + 1)
-    sorting-more i p b q e =
+    sorting-more i p b q in-place e =
         let l = c .long in
         let f = c .few in
         let g = c .inside in
         let z = sizes w legal in
-        let in-place = sorting-place i p q in
         record {
           inside = omega arith;
           few = omega arith;

@@ -1,6 +1,6 @@
 -- Ties put in order: two ties compared leaf by leaf, the place of one among those in order, and the records with it put in there. Assumes nothing.
 use mathlib.Core.Path.{_≡_, refl, sym, ap, ap₂, subst, _∙_}
-use mathlib.Core.Bool.{Bool, true, false, false≢true}
+use mathlib.Core.Bool.{true, false}
 use mathlib.Core.List.{List, [], _∷_, _++_, map, map-append, append-assoc}
 use Prim.Native.Nat.{ℕ, zero, suc, _+_, _-_, _≤_, _<_, zero-le, suc-le-suc}
 use native.Mathlib.Nat.{not-suc-le-zero, le-of-suc-le-suc}
@@ -11,7 +11,7 @@ use Rattle.lists.specs.Lists.{before, insert}
 use Rattle.lists.proofs.Bools.{Is, is, yes-is, no-is, Order, order, less, equal, more}
 use Rattle.lists.proofs.Elements.{map-at}
 use Rattle.lists.proofs.Sorted.{before-less, before-equal, before-more, before-not}
-use Rattle.rules.specs.Table.{Table, tableOf, matchOf, refusal}
+use Rattle.rules.specs.Table.{tableOf, matchOf, refusal}
 use Rattle.table.specs.Chains.{nextTied, tieFrom}
 use Rattle.table.specs.Slots.{slot, putIn, Held}
 use Rattle.table.proofs.Contenders.{tie-end, tie-step}
@@ -49,14 +49,6 @@ module _ (w : List ℕ) (legal : refusal w ≡ 0) where
       equal-before e = both ∙ before-equal (leaf i) (leaf j) (rest i) (rest j) e
 
 -- ---- the place of a list among those in order
-
-pub slot-low : (a : List ℕ) (l : List (List ℕ)) → slot a l ≤ length l
-slot-low a [] = zero-le
-slot-low a (b ∷ l) = go (is (before a b)) (slot-low a l)
-  where
-    go : Is (before a b) → slot a l ≤ length l → slot a (b ∷ l) ≤ suc (length l)
-    go (yes-is q) h = rw (q, slot) zero-le
-    go (no-is q) h = rw (q, slot) (suc-le-suc h)
 
 pub insert-slot : (a : List ℕ) (l : List (List ℕ)) → insert a l ≡ take (slot a l) l ++ (a ∷ drop (slot a l) l)
 insert-slot a [] = refl

@@ -1,8 +1,15 @@
--- The error buffer: "kind, leaf count, leaves" for each error, one after another from the front, and the rest as found. Definitions only.
+-- The conflict list of a set of states, and the error buffer: "kind, leaf count, leaves" for each error, one after another from the front, and the
+-- rest as found. Definitions only.
+use mathlib.Core.Bool.{Bool}
 use mathlib.Core.List.{List, _++_, flatMap}
 use Prim.Native.Nat.{ℕ}
-use lib.ListN.{length, drop}
-use Rattle.rules.specs.Build.{Error, errorWords}
+use lib.ListN.{length, getD, take, drop}
+use Rattle.rules.specs.Table.{tableOf}
+use Rattle.rules.specs.Build.{Error, errorWords, ties}
+
+-- rule 3's errors for a set of the n states of a table's words; flags from n on mean nothing
+abbrev pub tiesIn : List ℕ → List Bool → List Error
+tiesIn w set = ties (tableOf w) (take (getD w 0 0) set)
 
 abbrev pub listed : List Error → List ℕ → List ℕ
 listed errors found = flatMap errorWords errors ++ drop (length (flatMap errorWords errors)) found

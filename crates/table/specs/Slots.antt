@@ -1,6 +1,6 @@
 -- The conflict list as the code holds it: records where ties begin, put in one by one at their places. Definitions only.
 use mathlib.Core.Path.{_≡_}
-use mathlib.Core.Bool.{true, false}
+use mathlib.Core.Bool.{Bool, true, false, _&&_}
 use mathlib.Core.List.{List, [], _∷_, _++_}
 use Prim.Native.Nat.{ℕ, suc, _-_, _≤_, _<_}
 use lib.Dec.{leb}
@@ -10,9 +10,9 @@ use Rattle.rules.specs.Table.{Table}
 use Rattle.rules.specs.Build.{contenders}
 use Rattle.table.specs.Chains.{topOf, tieFrom}
 
--- the record where a state's tie begins; 0: it has none
-unfoldable pub tiedAt : Table → ℕ → ℕ
-tiedAt t s = elim (leb 2 (length (contenders t s))) [ true ↦ topOf t s | false ↦ 0 ]
+-- the record where the tie of state s of a set begins; 0: it has none, or is not in the set
+unfoldable pub tiedAt : Table → List Bool → ℕ → ℕ
+tiedAt t set s = elim (getD set s false && leb 2 (length (contenders t s))) [ true ↦ topOf t s | false ↦ 0 ]
 
 -- how many of a list's elements stand before the first that a comes before
 abbrev pub slot : List ℕ → List (List ℕ) → ℕ

@@ -3,16 +3,15 @@ ghost use mathlib.Core.Path.{_≡_};
 ghost use mathlib.Core.Option.{Option·getD};
 ghost use Prim.Native.Nat.{_<_, _≤_};
 ghost use lib.ListN.{getD};
-ghost use Rattle.rules.specs.Table.{tableOf, refusal, rowOf, leafAt, matchOf};
+ghost use Rattle.rules.specs.Table.{tableOf, refusal, rowOf, matchOf};
 ghost use Rattle.rules.specs.Build.{leafOf};
 ghost use Rattle.words.specs.Places.{matchPlace};
 ghost use Rattle.table.specs.Chains.{priorityAt, highestFrom, firstWith, topOf, nextTied};
-use words::table::leaf_place;
+use words::table::leaf_word;
 use words::table::leaves;
-use words::table::match_place;
-use words::table::row_place;
+use words::table::match_word;
+use words::table::row_word;
 use words::table::states;
-use words::word;
 
 // The head of state s's chain.
 fn head(table: &[u16], s: usize) -> usize
@@ -20,18 +19,18 @@ fn head(table: &[u16], s: usize) -> usize
     requires { ⌜ s < getD (now table) 0 0 ⌝ }
     ensures { λ r. ⌜ (r ≡ rowOf (tableOf (now (table .entry))) s .head) × (r ≤ getD (now (table .entry)) 3 0) ⌝ }
 {
-    word(table, row_place(leaves(table), s, 257))
+    row_word(table, leaves(table), s, 257)
 }
 
 // Word c, 0 or 1, of match record i.
-fn match_word(table: &[u16], i: usize, c: usize) -> usize
+fn record_word(table: &[u16], i: usize, c: usize) -> usize
     requires { ⌜ refusal (now table) ≡ 0 ⌝ }
     requires { ⌜ 0 < i ⌝ }
     requires { ⌜ i ≤ getD (now table) 3 0 ⌝ }
     requires { ⌜ c < 2 ⌝ }
     ensures { λ r. ⌜ r ≡ getD (now (table .entry)) (matchPlace (getD (now (table .entry)) 2 0) (getD (now (table .entry)) 0 0) i c) 0 ⌝ }
 {
-    word(table, match_place(leaves(table), states(table), i, c))
+    match_word(table, leaves(table), states(table), i, c)
 }
 
 // The leaf of match record i.
@@ -41,7 +40,7 @@ pub fn match_leaf(table: &[u16], i: usize) -> usize
     requires { ⌜ i ≤ getD (now table) 3 0 ⌝ }
     ensures { λ r. ⌜ (r ≡ matchOf (tableOf (now (table .entry))) i .leaf) × (r < getD (now (table .entry)) 2 0) ⌝ }
 {
-    match_word(table, i, 0)
+    record_word(table, i, 0)
 }
 
 // The record after record i; 0 if it is the chain's last.
@@ -51,7 +50,7 @@ fn match_next(table: &[u16], i: usize) -> usize
     requires { ⌜ i ≤ getD (now table) 3 0 ⌝ }
     ensures { λ r. ⌜ (r ≡ matchOf (tableOf (now (table .entry))) i .next) × (r < i) ⌝ }
 {
-    match_word(table, i, 1)
+    record_word(table, i, 1)
 }
 
 // The priority of record i's leaf, from its two halves.
@@ -62,7 +61,7 @@ fn priority(table: &[u16], i: usize) -> usize
     ensures { λ r. ⌜ r ≡ priorityAt (tableOf (now (table .entry))) i ⌝ }
 {
     let leaf = match_leaf(table, i);
-    word(table, leaf_place(leaf, 0)) + 65536 * word(table, leaf_place(leaf, 1))
+    leaf_word(table, leaf, 0) + 65536 * leaf_word(table, leaf, 1)
 }
 
 // The highest priority in the chain from record i.

@@ -7,24 +7,26 @@ ghost use lib.ListN.{length, getD, take};
 ghost use lib.Seq.{sets};
 ghost use Rattle.lists.specs.Lists.{before};
 ghost use Rattle.rules.specs.Table.{tableOf, refusal};
-ghost use Rattle.rules.specs.Build.{noUniversalStart, emptyMatch, disambiguation, errorWords, emptyLeaves, ties};
+ghost use Rattle.rules.specs.Build.{noUniversalStart, emptyMatch, disambiguation, errorWords, emptyLeaves};
 ghost use Rattle.table.specs.Chains.{tieFrom};
 ghost use Rattle.table.specs.Slots.{tiedAt, slot, putIn, Held, InOrder};
-ghost use Rattle.table.specs.Listed.{listed};
+ghost use Rattle.table.specs.Listed.{tiesIn, listed};
 use crate::leaf::match_leaf;
 use crate::leaf::next_tied;
 use crate::leaf::top;
-use words::table::leaf_place;
+use words::table::leaf_word;
 use words::table::leaves;
 use words::table::states;
-use words::word;
 
-// The record where state s's tie begins; 0 if it has none.
-fn tied(table: &[u16], s: usize) -> usize
+// The record where the tie of state s begins; 0 if it has none, or is not in the set.
+fn tied(table: &[u16], set: &[bool; 1024], s: usize) -> usize
     requires { ⌜ refusal (now table) ≡ 0 ⌝ }
     requires { ⌜ s < getD (now table) 0 0 ⌝ }
-    ensures { λ r. ⌜ (r ≡ tiedAt (tableOf (now (table .entry))) s) × (r ≤ getD (now (table .entry)) 3 0) ⌝ }
+    ensures { λ r. ⌜ (r ≡ tiedAt (tableOf (now (table .entry))) (now (set .entry)) s) × (r ≤ getD (now (table .entry)) 3 0) ⌝ }
 {
+    if !set[s] {
+        return 0;
+    }
     let i = top(table, s);
     if i == 0 {
         return 0;
@@ -41,38 +43,36 @@ fn tie_length(table: &[u16], i: usize) -> usize
     requires { ⌜ i ≤ getD (now table) 3 0 ⌝ }
     ensures { λ r. ⌜ (r ≡ length (tieFrom (tableOf (now (table .entry))) i)) × (r ≤ 255) ⌝ }
 {
-    let mut k: usize = 0;
+    let mut number: usize = 0;
     let mut j = i;
     while j != 0 {
-        k += 1;
+        number += 1;
         j = next_tied(table, j);
     }
-    k
+    number
 }
 
-// The number of a set's ties, and of the words that tell them.
+// A number of errors, and of the words that tell them.
 pub struct TieWords {
     pub errors: usize,
     pub words: usize,
 }
 
-// The set is of the table's n states; flags from n on mean nothing.
+// Rule 3: how many states of a set are tied, and the words of their errors. The set is of the table's n states; flags from n on mean nothing.
 pub fn tie_words(table: &[u16], set: &[bool; 1024]) -> TieWords
     requires { ⌜ refusal (now table) ≡ 0 ⌝ }
-    ensures { λ r. ⌜ r .errors ≡ length (ties (tableOf (now (table .entry))) (take (getD (now (table .entry)) 0 0) (now (set .entry)))) ⌝ }
-    ensures { λ r. ⌜ r .words ≡ length (flatMap errorWords (ties (tableOf (now (table .entry))) (take (getD (now (table .entry)) 0 0) (now (set .entry))))) ⌝ }
+    ensures { λ r. ⌜ r .errors ≡ length (tiesIn (now (table .entry)) (now (set .entry))) ⌝ }
+    ensures { λ r. ⌜ r .words ≡ length (flatMap errorWords (tiesIn (now (table .entry)) (now (set .entry)))) ⌝ }
 {
     let mut errors: usize = 0;
     let mut words: usize = 0;
     let mut s = states(table);
     while 0 < s {
         s -= 1;
-        if set[s] {
-            let i = tied(table, s);
-            if i != 0 {
-                errors += 1;
-                words += 2 + tie_length(table, i);
-            }
+        let i = tied(table, set, s);
+        if i != 0 {
+            errors += 1;
+            words += 2 + tie_length(table, i);
         }
     }
     TieWords { errors, words }
@@ -105,13 +105,14 @@ fn tie_before(table: &[u16], a: usize, b: usize) -> bool
     true
 }
 
-// Where the tie from record i belongs among those from the first `count` of the records, which stand in order: before the first that it comes before.
+// Where the tie from record i belongs among those from the first `count` of the records, which stand in order: before the first that it comes
+// before. By halving, so that a tie is compared with ten others at most.
 fn slot_of(table: &[u16], order: &[u16; 1024], count: usize, i: usize) -> usize
     requires { ⌜ refusal (now table) ≡ 0 ⌝ }
     requires { ⌜ length (now order) ≡ 1024 ⌝ }
     requires { ⌜ i ≤ getD (now table) 3 0 ⌝ }
     requires { ⌜ InOrder (tableOf (now table)) (getD (now table) 3 0) (now order) count ⌝ }
-    ensures { λ r. ⌜ r ≡ slot (tieFrom (tableOf (now (table .entry))) i) (map (tieFrom (tableOf (now (table .entry)))) (take count (now (order .entry)))) ⌝ }
+    ensures { λ r. ⌜ (r ≡ slot (tieFrom (tableOf (now (table .entry))) i) (map (tieFrom (tableOf (now (table .entry)))) (take count (now (order .entry))))) × (r ≤ count) ⌝ }
 {
     let mut low: usize = 0;
     let mut high = count;
@@ -141,15 +142,16 @@ fn put_in(order: &mut [u16; 1024], count: usize, p: usize, v: u16)
     order[p] = v;
 }
 
-// The records of a set's ties, in the order of the conflict list.
+// The records where ties begin, the first `count` of them.
 struct TieOrder {
     order: [u16; 1024],
     count: usize,
 }
 
+// A set's ties in the order of the conflict list: from the last state down, each is put in at its place. Equal ones are kept.
 fn tie_order(table: &[u16], set: &[bool; 1024]) -> TieOrder
     requires { ⌜ refusal (now table) ≡ 0 ⌝ }
-    ensures { λ r. ⌜ map disambiguation (map (tieFrom (tableOf (now (table .entry)))) (take (r .count) (r .order))) ≡ ties (tableOf (now (table .entry))) (take (getD (now (table .entry)) 0 0) (now (set .entry))) ⌝ }
+    ensures { λ r. ⌜ map disambiguation (map (tieFrom (tableOf (now (table .entry)))) (take (r .count) (r .order))) ≡ tiesIn (now (table .entry)) (now (set .entry)) ⌝ }
     ensures { λ r. ⌜ Held (getD (now (table .entry)) 3 0) (r .order) (r .count) ⌝ }
 {
     let mut order = [0u16; 1024];
@@ -157,13 +159,11 @@ fn tie_order(table: &[u16], set: &[bool; 1024]) -> TieOrder
     let mut s = states(table);
     while 0 < s {
         s -= 1;
-        if set[s] {
-            let i = tied(table, s);
-            if i != 0 {
-                let p = slot_of(table, &order, count, i);
-                put_in(&mut order, count, p, i as u16);
-                count += 1;
-            }
+        let i = tied(table, set, s);
+        if i != 0 {
+            let p = slot_of(table, &order, count, i);
+            put_in(&mut order, count, p, i as u16);
+            count += 1;
         }
     }
     TieOrder { order, count }
@@ -192,8 +192,8 @@ fn write_tie(table: &[u16], i: usize, errors: &mut [u16], at: usize) -> usize
 // Rule 3: writes the errors of a set's ties.
 pub fn write_ties(table: &[u16], set: &[bool; 1024], errors: &mut [u16])
     requires { ⌜ refusal (now table) ≡ 0 ⌝ }
-    requires { ⌜ length (flatMap errorWords (ties (tableOf (now table)) (take (getD (now table) 0 0) (now set)))) ≤ length (now errors) ⌝ }
-    ensures { λ _. ⌜ now (errors .exit) ≡ listed (ties (tableOf (now (table .entry))) (take (getD (now (table .entry)) 0 0) (now (set .entry)))) (now (errors .entry)) ⌝ }
+    requires { ⌜ length (flatMap errorWords (tiesIn (now table) (now set))) ≤ length (now errors) ⌝ }
+    ensures { λ _. ⌜ now (errors .exit) ≡ listed (tiesIn (now (table .entry)) (now (set .entry))) (now (errors .entry)) ⌝ }
 {
     let sorted = tie_order(table, set);
     let order = sorted.order;
@@ -216,7 +216,7 @@ pub fn write_empty(table: &[u16], errors: &mut [u16])
     let mut at: usize = 0;
     let mut l: usize = 0;
     while l < m {
-        if word(table, leaf_place(l, 2)) == 1 {
+        if leaf_word(table, l, 2) == 1 {
             errors[at] = 1;
             errors[at + 1] = 1;
             errors[at + 2] = l as u16;

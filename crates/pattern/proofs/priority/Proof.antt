@@ -12,8 +12,13 @@ fits-requires c κs = search needs
 returns : tie.Need-returns
 returns c = no-tree _ _ (sym (c .before .fits2 .ensures) ∙ not-true _ (c .if1 .taken))
 
+widths-requires : tie.Need-widths-requires
+widths-requires c κs = search needs
+
 record-value-requires : tie.Need-record-value-requires
-record-value-requires c κs = root-held _ _ (sym (c .before .fits2 .ensures) ∙ not-false _ (c .if1 .left))
+record-value-requires c κs =
+    let tree = c .before .before in
+    root-held _ _ (sym (tree .before .fits2 .ensures) ∙ not-false _ (tree .if1 .left)) _ (c .before .widths .ensures)
 
 enum-known-v : tie.Need-enum-known-v
 enum-known-v c = search needs
@@ -24,13 +29,13 @@ enum-told c = search needs
 returns-2 : tie.Need-returns-2
 returns-2 c =
     let found = c .before .before .before in
-    let tree = found .before in
+    let tree = found .before .before .before in
     valued _ _ (sym (tree .before .fits2 .ensures) ∙ not-false _ (tree .if1 .left)) (found .record-value .result) (found .record-value .ensures) _ (c .before .v .given .1)
 
 returns-3 : tie.Need-returns-3
 returns-3 c =
     let found = c .before .before in
-    let tree = found .before in
+    let tree = found .before .before .before in
     overrun _ _ (sym (tree .before .fits2 .ensures) ∙ not-false _ (tree .if1 .left)) (found .record-value .result) (found .record-value .ensures) (c .enum-told .given .1)
 
 pub priority-spec : {M : Type 1} → statement M
@@ -39,6 +44,7 @@ priority-spec =
     (tie.spec
     fits-requires
     returns
+    widths-requires
     record-value-requires
     enum-known-v
     enum-told

@@ -1,7 +1,6 @@
 -- A digit is below ten or not. Assumes nothing.
 use borrow.Author.Needs.{needs}
 use borrow.Author.Tests.{lt-ltb, le-ltb}
-use Rattle.display.specs.Display.{hexDigit}
 use Rattle.display.proofs.byte_class.hex_digit.Statement.{statement}
 use Rattle.display.proofs.byte_class.hex_digit.Tie as tie
 

@@ -1,7 +1,7 @@
 -- The loop's invariant: the marked states are those that a byte below b leads to. The measure is the bytes left. Assumes nothing.
-use mathlib.Core.Path.{_≡_, refl, sym, _∙_}
+use mathlib.Core.Path.{refl}
 use mathlib.Core.Bool.{false}
-use Prim.Native.Nat.{_-_, _<_}
+use Prim.Native.Nat.{_-_}
 use native.Mathlib.Omega.{arith}
 use lib.ListN.{getD, getD-replicate}
 use Rattle.rules.specs.Graph.{stateOf, graphFrom}

@@ -1,12 +1,11 @@
 -- The loop's invariant: the states before s are written, and those from there on are to come. The measure is the states left. Assumes nothing.
-use borrow.Author.Needs.{needs}
 use mathlib.Core.Path.{_≡_, sym, subst}
 use mathlib.Core.List.{List, _++_}
 use Prim.Native.Nat.{ℕ, _+_, _≤_, _<_, _-_}
 use native.Mathlib.Omega.{arith}
 use lib.ListN.{getD}
 use Rattle.rules.specs.Graph.{graphFrom}
-use Rattle.rules.proofs.Taken.{taken-long, taken-few}
+use Rattle.rules.proofs.Taken.{taken-long}
 use Rattle.display.specs.Text.{bytes, Counts}
 use Rattle.display.specs.Display.{displayed}
 use Rattle.display.proofs.Runs.{Underway, wrote-none, wrote-as, wrote-then, wrote-length, starts, ends, goes, underway-as, part-counts, counts-first, counts-then}

@@ -1,11 +1,11 @@
 -- A number's text is its tenth's, and its last digit. The measure is the number. Assumes nothing.
-use mathlib.Core.Path.{_≡_, sym, ap, subst, _∙_}
-use mathlib.Core.List.{List, _++_}
+use mathlib.Core.Path.{sym, ap, subst, _∙_}
+use mathlib.Core.List.{_++_}
 use Prim.Native.Nat.{ℕ, _+_, _/_, _%_, _≤_, _<_}
 use native.Mathlib.Omega.{arith}
 use borrow.Fn.Kinds.{In}
 use borrow.Fn.PlainCycle.{Measures, is, falls, and}
-use Rattle.display.specs.Text.{one, decimal, Wrote, Counts}
+use Rattle.display.specs.Text.{one, decimal, Counts}
 use Rattle.display.proofs.Runs.{wrote-then, wrote-as, wrote-length, counts-first, counts-then}
 use Rattle.display.proofs.Decimals.{decimal-one, decimal-more}
 use Rattle.display.proofs.put.number.Reads as number

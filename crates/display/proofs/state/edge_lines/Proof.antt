@@ -1,5 +1,4 @@
 -- The loop's invariant: the lines of the targets below u are written, and those from there on are to come. The measure is the states left. Assumes nothing.
-use borrow.Author.Needs.{needs}
 use mathlib.Core.Path.{_≡_, sym, ap, subst, _∙_}
 use mathlib.Core.List.{List, _++_}
 use Prim.Native.Nat.{ℕ, _+_, _≤_, _<_, _-_}

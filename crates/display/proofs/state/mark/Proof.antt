@@ -1,10 +1,8 @@
 -- Nothing for 255, which is no leaf; otherwise name, leaf, and what closes the mark. Assumes nothing.
 use borrow.Author.Needs.{needs}
 use borrow.Author.Tests.{eq-eqb, ne-eqb}
-use mathlib.Core.Path.{_≡_, sym, ap, subst, _∙_}
-use mathlib.Core.List.{List, _++_, append-assoc}
-use mathlib.Core.Option.{Option}
-use Prim.Native.Nat.{ℕ}
+use mathlib.Core.Path.{_≡_, sym, subst}
+use mathlib.Core.List.{_++_, append-assoc}
 use Rattle.rules.specs.Graph.{orNone}
 use Rattle.display.specs.Text.{bytes, decimal, Counts}
 use Rattle.display.specs.Display.{markText}

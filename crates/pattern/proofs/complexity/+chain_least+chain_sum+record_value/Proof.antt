@@ -27,40 +27,40 @@ use Rattle.pattern.proofs.values.multiplied.Reads as multiplied-reads
 use Rattle.pattern.proofs.complexity.+chain_least+chain_sum+record_value.{statement}
 use Rattle.pattern.proofs.complexity.+chain_least+chain_sum+record_value.Tie.{close}
 
-abbrev μ-chain-least : Measures 2 chain-least-kinds.ps ℕ
-μ-chain-least κs a = a .1 .1 .0 + a .1 .1 .0 + 1
+abbrev μ-chain-least : Measures 3 chain-least-kinds.ps ℕ
+μ-chain-least κs a = a .1 .1 .1 .0 + a .1 .1 .1 .0 + 1
 
-abbrev μ-chain-sum : Measures 2 chain-sum-kinds.ps ℕ
-μ-chain-sum κs a = a .1 .1 .0 + a .1 .1 .0 + 1
+abbrev μ-chain-sum : Measures 3 chain-sum-kinds.ps ℕ
+μ-chain-sum κs a = a .1 .1 .1 .0 + a .1 .1 .1 .0 + 1
 
-abbrev μ-record-value : Measures 2 record-value-kinds.ps ℕ
-μ-record-value κs a = a .1 .1 .0 + a .1 .1 .0
+abbrev μ-record-value : Measures 3 record-value-kinds.ps ℕ
+μ-record-value κs a = a .1 .1 .1 .0 + a .1 .1 .1 .0
 
-abbrev chain-least-at : ℕ → In 2 chain-least-kinds.ps
+abbrev chain-least-at : ℕ → In 3 chain-least-kinds.ps
 chain-least-at t =
-    and 2 chain-least-kinds.ps (is 2 chain-least-kinds.ps μ-chain-least t) chain-least.Pre
+    and 3 chain-least-kinds.ps (is 3 chain-least-kinds.ps μ-chain-least t) chain-least.Pre
 
-abbrev chain-least-below : ℕ → In 2 chain-least-kinds.ps
+abbrev chain-least-below : ℕ → In 3 chain-least-kinds.ps
 chain-least-below t =
-    and 2 chain-least-kinds.ps (falls 2 chain-least-kinds.ps _<_ μ-chain-least t) chain-least.Pre
+    and 3 chain-least-kinds.ps (falls 3 chain-least-kinds.ps _<_ μ-chain-least t) chain-least.Pre
 
-abbrev chain-sum-at : ℕ → In 2 chain-sum-kinds.ps
-chain-sum-at t = and 2 chain-sum-kinds.ps (is 2 chain-sum-kinds.ps μ-chain-sum t) chain-sum.Pre
+abbrev chain-sum-at : ℕ → In 3 chain-sum-kinds.ps
+chain-sum-at t = and 3 chain-sum-kinds.ps (is 3 chain-sum-kinds.ps μ-chain-sum t) chain-sum.Pre
 
-abbrev chain-sum-below : ℕ → In 2 chain-sum-kinds.ps
+abbrev chain-sum-below : ℕ → In 3 chain-sum-kinds.ps
 chain-sum-below t =
-    and 2 chain-sum-kinds.ps (falls 2 chain-sum-kinds.ps _<_ μ-chain-sum t) chain-sum.Pre
+    and 3 chain-sum-kinds.ps (falls 3 chain-sum-kinds.ps _<_ μ-chain-sum t) chain-sum.Pre
 
-abbrev record-value-at : ℕ → In 2 record-value-kinds.ps
+abbrev record-value-at : ℕ → In 3 record-value-kinds.ps
 record-value-at t =
-    and 2 record-value-kinds.ps (is 2 record-value-kinds.ps μ-record-value t) record-value.Pre
+    and 3 record-value-kinds.ps (is 3 record-value-kinds.ps μ-record-value t) record-value.Pre
 
-abbrev record-value-below : ℕ → In 2 record-value-kinds.ps
+abbrev record-value-below : ℕ → In 3 record-value-kinds.ps
 record-value-below t =
     and
-    2
+    3
     record-value-kinds.ps
-    (falls 2 record-value-kinds.ps _<_ μ-record-value t)
+    (falls 3 record-value-kinds.ps _<_ μ-record-value t)
     record-value.Pre
 
 -- what each may take of its calls below the measure t
@@ -77,7 +77,8 @@ record-value-calls t = (record-at-reads.Asked, record-at-reads.Learnt, literal-v
 abbrev Read : ℕ → Type 0
 Read t = record-value-lts.After-record-at (record-value-calls t) (record-value-at t) record-value.Post
 
-read : (t : ℕ) (c : Read t) → Here (c .before .before .before .args .tree .now) (c .before .before .before .args .bytes .now) (c .before .before .before .args .i) (c .record-at .result)
+read : (t : ℕ) (c : Read t) → Here (c .before .before .before .args .tree .now) (c .before .before .before .args .bytes .now) (c .before .before .before .args .widths .now)
+    (c .before .before .before .args .i) (c .record-at .result)
 read t c = let s = c .before .before .before in record { held = s .pre .1 .0; there = s .pre .1 .1; is = c .record-at .ensures }
 
 -- what it names is measured less
@@ -85,10 +86,10 @@ lower : (t : ℕ) (c : Read t) → c .record-at .result .child + c .record-at .r
 lower t c = omega (arith, c .before .before .before .pre .0, rules (read t c) .child)
 
 abbrev chain-least-Inv-loop : chain-least-lts.InvT-loop
-chain-least-Inv-loop tree bytes first least₀ i₀ least i = Leasting tree bytes first least i
+chain-least-Inv-loop tree bytes widths first least₀ i₀ least i = Leasting tree bytes widths first least i
 
 abbrev chain-least-μ-loop : chain-least-lts.MeasureT-loop
-chain-least-μ-loop tree bytes first least₀ i₀ least i = i
+chain-least-μ-loop tree bytes widths first least₀ i₀ least i = i
 
 chain-least-returns : (t : ℕ) → chain-least-lts.Need-returns (chain-least-calls t) (chain-least-at t) chain-least.Post chain-least-Inv-loop chain-least-μ-loop
 chain-least-returns t c = sym (least-none (c .before .before .before .pre .1) (c .if1 .taken))
@@ -119,7 +120,8 @@ chain-least-record-at-requires-2 t c κs =
     (omega arith, l .inv .held .below)
 
 chain-least-read : (t : ℕ) (c : chain-least-lts.After-record-at2 (chain-least-calls t) (chain-least-at t) chain-least.Post chain-least-Inv-loop chain-least-μ-loop)
-    → Here (c .before .before .before .before .before .before .before .before .before .before .args .tree .now) (c .before .before .before .before .before .before .before .before .before .before .args .bytes .now) (c .before .before .before .before .loop .i) (c .record-at2 .result)
+    → Here (c .before .before .before .before .before .before .before .before .before .before .args .tree .now) (c .before .before .before .before .before .before .before .before .before .before .args .bytes .now)
+    (c .before .before .before .before .before .before .before .before .before .before .args .widths .now) (c .before .before .before .before .loop .i) (c .record-at2 .result)
 chain-least-read t c = let l = c .before .before .before .before .loop in record { held = l .inv .held; there = omega arith; is = c .record-at2 .ensures }
 
 chain-least-loop-less : (t : ℕ) → chain-least-lts.Need-loop-less (chain-least-calls t) (chain-least-at t) chain-least.Post chain-least-Inv-loop chain-least-μ-loop
@@ -133,10 +135,10 @@ chain-least-returns-2 : (t : ℕ) → chain-least-lts.Need-returns-2 (chain-leas
 chain-least-returns-2 t c = least-ends (c .before .loop .inv) (omega arith)
 
 abbrev chain-sum-Inv-loop : chain-sum-lts.InvT-loop
-chain-sum-Inv-loop tree bytes first total₀ i₀ total i = Summing tree bytes first total i
+chain-sum-Inv-loop tree bytes widths first total₀ i₀ total i = Summing tree bytes widths first total i
 
 abbrev chain-sum-μ-loop : chain-sum-lts.MeasureT-loop
-chain-sum-μ-loop tree bytes first total₀ i₀ total i = i
+chain-sum-μ-loop tree bytes widths first total₀ i₀ total i = i
 
 chain-sum-loop-holds : (t : ℕ) → chain-sum-lts.Need-loop-holds (chain-sum-calls t) (chain-sum-at t) chain-sum.Post chain-sum-Inv-loop chain-sum-μ-loop
 chain-sum-loop-holds t c = sum-starts (c .before .before .pre .1)
@@ -155,7 +157,8 @@ chain-sum-record-at-requires t c κs =
     (omega arith, l .inv .held .below)
 
 chain-sum-read : (t : ℕ) (c : chain-sum-lts.After-record-at (chain-sum-calls t) (chain-sum-at t) chain-sum.Post chain-sum-Inv-loop chain-sum-μ-loop)
-    → Here (c .before .before .before .before .before .before .before .args .tree .now) (c .before .before .before .before .before .before .before .args .bytes .now) (c .before .before .before .before .loop .i) (c .record-at .result)
+    → Here (c .before .before .before .before .before .before .before .args .tree .now) (c .before .before .before .before .before .before .before .args .bytes .now)
+    (c .before .before .before .before .before .before .before .args .widths .now) (c .before .before .before .before .loop .i) (c .record-at .result)
 chain-sum-read t c = let l = c .before .before .before .before .loop in record { held = l .inv .held; there = omega arith; is = c .record-at .ensures }
 
 chain-sum-loop-less : (t : ℕ) → chain-sum-lts.Need-loop-less (chain-sum-calls t) (chain-sum-at t) chain-sum.Post chain-sum-Inv-loop chain-sum-μ-loop
@@ -174,7 +177,9 @@ record-value-record-at-requires t c κs =
     (s .pre .1 .1, s .pre .1 .0 .below)
 
 record-value-literal-value-requires : (t : ℕ) → record-value-lts.Need-literal-value-requires (record-value-calls t) (record-value-at t) record-value.Post
-record-value-literal-value-requires t c κs = literal-asks (read t (c .before)) (c .match .keys1)
+record-value-literal-value-requires t c κs =
+    let r = read t (c .before) in
+    (r .held .table, literal-asks r (c .match .keys1))
 
 record-value-record-value-requires : (t : ℕ) → record-value-lts.Need-record-value-requires (record-value-calls t) (record-value-at t) record-value.Post
 record-value-record-value-requires t c κs =

@@ -31,7 +31,7 @@ mul-cap c =
     let call = told .before .before in
     let start = call .before .before .before in
     let a = start .args in
-    omega (arith, counted-bound (a .bytes .now) (a .a) (a .b) (start .pre) (call .code-points .result) (call .code-points .ensures) (told .n .given .0 .0) (told .n .given .1))
+    omega (arith, counted-bound (a .bytes .now) (a .a) (a .b) (start .pre .1) (call .code-points .result) (call .code-points .ensures) (told .n .given .0 .0) (told .n .given .1))
 
 cap-requires : tie.Need-cap-requires
 cap-requires c κs = search needs
@@ -51,7 +51,7 @@ returns c =
     let call = told .before .before in
     let start = call .before .before .before in
     let a = start .args in
-    c .cap .ensures ∙ ap capped (counted (a .bytes .now) (a .a) (a .b) (start .pre) (call .code-points .result) (call .code-points .ensures) (told .n .given .0 .0) (told .n .given .1))
+    c .cap .ensures ∙ ap capped (counted (a .bytes .now) (a .a) (a .b) (start .pre .1) (call .code-points .result) (call .code-points .ensures) (told .n .given .0 .0) (told .n .given .1))
 
 returns-2 : tie.Need-returns-2
 returns-2 c =
@@ -59,7 +59,7 @@ returns-2 c =
     let call = told .before .before in
     let start = call .before .before .before in
     let a = start .args in
-    c .cap2 .ensures ∙ ap capped (ill-formed (a .bytes .now) (a .a) (a .b) (start .pre) (call .code-points .result) (call .code-points .ensures) (told .enum-told .given .1))
+    c .cap2 .ensures ∙ ap capped (ill-formed (a .bytes .now) (a .a) (a .b) (start .pre .1) (call .code-points .result) (call .code-points .ensures) (told .enum-told .given .1))
 
 pub literal-value-spec : {M : Type 1} → statement M
 literal-value-spec =

@@ -1,20 +1,31 @@
 -- `pattern::utf8::code_points` meets its contract. The loop's invariant: the text's code points are the sequences that have begun and those of
 -- the rest, after the bytes still due (`Left`). The measure is what is left of the text. Assumes nothing.
-use mathlib.Core.Path.{sym, ap}
+use mathlib.Core.Path.{_≡_, sym, ap}
 use Prim.Native.Nat.{_≤_, _-_, _<_}
 use native.Mathlib.Omega.{arith}
 use lib.ListN.{length, getD}
 use borrow.Author.Needs.{needs}
+use Rattle.pattern.specs.Utf8.{widthOf}
 use Rattle.pattern.specs.Points.{pointsOf}
-use Rattle.pattern.proofs.Dividing.{Left, left-start, left-lead, left-no-lead, left-trail, left-below, left-above, left-end, left-short}
+use Rattle.pattern.proofs.LeadBytes.{width-small}
+use Rattle.pattern.proofs.Dividing.{width-at, Left, left-start, left-lead, left-no-lead, left-trail, left-below, left-above, left-end, left-short}
 use Rattle.pattern.proofs.utf8.code_points.Statement.{statement}
 use Rattle.pattern.proofs.utf8.code_points.Tie as tie
 
 abbrev Inv-loop : tie.InvT-loop
-Inv-loop text n₀ due₀ low₀ high₀ i₀ n due low high i = (i ≤ length text) × (n ≤ i) × Left text n due low high i
+Inv-loop text widths n₀ due₀ low₀ high₀ i₀ n due low high i = (i ≤ length text) × (n ≤ i) × Left text n due low high i
 
 abbrev μ-loop : tie.MeasureT-loop
-μ-loop text n₀ due₀ low₀ high₀ i₀ n due low high i = length text - i
+μ-loop text widths n₀ due₀ low₀ high₀ i₀ n due low high i = length text - i
+
+-- the byte at i, and the table's entry for it
+is-byte : (c : tie.After-shared-slice-known2 Inv-loop μ-loop) → getD (c .before .before .before .before .args .text .now) (c .before .before .loop .i) 0 < 256
+is-byte c = omega (arith, c .shared-slice-known2 .given (c .before .before .loop .i))
+
+entry : (c : tie.After-shared-slice-known2 Inv-loop μ-loop)
+    → getD (c .before .before .before .before .args .widths .now) (getD (c .before .before .before .before .args .text .now) (c .before .before .loop .i) 0) 0
+    ≡ widthOf (getD (c .before .before .before .before .args .text .now) (c .before .before .loop .i) 0)
+entry c = width-at _ (c .before .before .before .before .pre) _ (is-byte c)
 
 loop-holds : tie.Need-loop-holds Inv-loop μ-loop
 loop-holds c = (omega arith, omega arith, left-start _)
@@ -25,15 +36,25 @@ shared-slice-read-b c = search needs
 add-i : tie.Need-add-i Inv-loop μ-loop
 add-i c = search needs
 
-width-requires : tie.Need-width-requires Inv-loop μ-loop
-width-requires c κs = search needs
+cast-w : tie.Need-cast-w Inv-loop μ-loop
+cast-w c = omega (arith, is-byte (c .before))
+
+element-copy-out-w : tie.Need-element-copy-out-w Inv-loop μ-loop
+element-copy-out-w c = is-byte (c .before)
+
+cast-w-2 : tie.Need-cast-w-2 Inv-loop μ-loop
+cast-w-2 c =
+    let read = c .before .before in
+    omega (arith, entry read, width-small _ (is-byte read))
 
 returns : tie.Need-returns Inv-loop μ-loop
 returns c =
-    let at = c .before .before .before .before .before in
+    let read = c .before .before .before in
+    let at = read .before .before in
     let l = at .loop in
-    let text = at .before .before .args .text .now in
-    sym (ap pointsOf (left-no-lead text (l .n) (l .low) (l .high) (l .i) (search needs) (l .due) (search needs) (l .inv .2) (omega (arith, c .if2 .taken, c .before .width .ensures))))
+    let start = at .before .before in
+    let text = start .args .text .now in
+    sym (ap pointsOf (left-no-lead text (l .n) (l .low) (l .high) (l .i) (search needs) (l .due) (search needs) (l .inv .2) (omega (arith, c .if2 .taken, entry read))))
 
 sub-due : tie.Need-sub-due Inv-loop μ-loop
 sub-due c = search needs
@@ -52,14 +73,16 @@ loop-less c = search needs
 
 loop-again : tie.Need-loop-again Inv-loop μ-loop
 loop-again c =
-    let at = c .before .before .before .before .before .before .before in
+    let read = c .before .before .before .before .before in
+    let at = read .before .before in
     let l = at .loop in
-    let text = at .before .before .args .text .now in
-    let known : getD text (l .i) 0 < 256 = omega (arith, c .before .before .before .before .before .shared-slice-known2 .given (l .i)) in (
+    let start = at .before .before in
+    let text = start .args .text .now in
+    let width = entry read in (
       search needs,
       search needs,
-      rw (c .second-high .ensures, c .before .second-low .ensures, c .before .before .before .width .ensures)
-          (left-lead text (l .n) (l .low) (l .high) (l .i) (search needs) (l .due) (search needs) (l .inv .2) known (omega (arith, c .before .before .before .width .ensures))),
+      rw (c .second-high .ensures, c .before .second-low .ensures, width)
+          (left-lead text (l .n) (l .low) (l .high) (l .i) (search needs) (l .due) (search needs) (l .inv .2) (is-byte read) (omega (arith, width))),
     )
 
 returns-2 : tie.Need-returns-2 Inv-loop μ-loop
@@ -112,7 +135,9 @@ code-points-spec =
     loop-holds
     shared-slice-read-b
     add-i
-    width-requires
+    cast-w
+    element-copy-out-w
+    cast-w-2
     returns
     sub-due
     second-low-requires

@@ -12,22 +12,19 @@ use Rattle.table.proofs.leaf.head.Tie as tie
 leaves-requires : tie.Need-leaves-requires
 leaves-requires c κs = let z = sizes _ (c .before .pre .0) in omega arith
 
-row-place-requires : tie.Need-row-place-requires
-row-place-requires c κs = let z = sizes _ (c .before .before .pre .0) in omega arith
-
-word-requires : tie.Need-word-requires
-word-requires c κs = let z = sizes _ (c .before .before .before .pre .0) in omega arith
+row-word-requires : tie.Need-row-word-requires
+row-word-requires c κs = let z = sizes _ (c .before .before .pre .0) in omega arith
 
 returns : tie.Need-returns
 returns c =
-    let at = c .before .before .before .before in
+    let at = c .before .before .before in
     let w = at .args .table .now in
     let s = at .args .s in
-    let e = c .word .ensures .0
-    ∙ ap (λ (k : ℕ). getD w k 0) (c .before .row-place .ensures ∙ ap (λ (m : ℕ). rowPlace m s 257) (c .before .before .leaves .ensures .0))
+    let e = c .row-word .ensures .0
+    ∙ ap (λ (m : ℕ). getD w (rowPlace m s 257) 0) (c .before .leaves .ensures .0)
     ∙ sym (head-word w s (at .pre .1)) in
     let l = head-below w (at .pre .0) s in
     (e, omega arith)
 
 pub head-spec : {M : Type 1} → statement M
-head-spec = tie.close (tie.spec leaves-requires row-place-requires word-requires returns)
+head-spec = tie.close (tie.spec leaves-requires row-word-requires returns)

@@ -1,6 +1,6 @@
 -- The greater of `top` and the highest priority from record j on is the chain's highest. The measure is j: a record's next is below it. Assumes nothing.
 use mathlib.Core.Path.{_≡_, ap, _∙_}
-use Prim.Native.Nat.{ℕ, max, _≤_}
+use Prim.Native.Nat.{max, _≤_}
 use native.Mathlib.Omega.{arith}
 use lib.ListN.{getD}
 use Rattle.rules.specs.Table.{tableOf}

@@ -1,10 +1,10 @@
 -- No top record: no leaf. A second record of the top's priority: a tie, no leaf. Else the top record's leaf. Assumes nothing.
-use mathlib.Core.Path.{_≡_, sym, ap, _∙_}
+use mathlib.Core.Path.{sym, ap, _∙_}
 use mathlib.Core.Option.{Option, Option·getD}
 use Prim.Native.Nat.{ℕ}
 use native.Mathlib.Omega.{arith}
 use Rattle.rules.specs.Table.{tableOf, matchOf}
-use Rattle.table.specs.Chains.{topOf, nextTied}
+use Rattle.table.specs.Chains.{nextTied}
 use Rattle.table.proofs.Contenders.{leaf-none, leaf-one, leaf-tied}
 use borrow.Author.Needs.{needs}
 use Rattle.table.proofs.leaf.leaf_of.Statement.{statement}

@@ -1,6 +1,5 @@
 -- The first record of the chain's highest priority. Assumes nothing.
 use mathlib.Core.Path.{ap₂, ap, _∙_}
-use Prim.Native.Nat.{ℕ}
 use native.Mathlib.Omega.{arith}
 use Rattle.rules.specs.Table.{tableOf}
 use Rattle.table.specs.Chains.{firstWith, highestFrom, topOf}

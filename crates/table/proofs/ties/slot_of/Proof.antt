@@ -1,6 +1,6 @@
 -- The place is among those from `low` to `high`. The measure is how many they are. Assumes nothing.
 use mathlib.Core.Path.{sym, _∙_}
-use Prim.Native.Nat.{_+_, _-_, _/_, _≤_}
+use Prim.Native.Nat.{_+_, _-_, _/_}
 use native.Mathlib.Omega.{arith}
 use Rattle.rules.specs.Table.{tableOf}
 use Rattle.table.specs.Chains.{tieFrom}
@@ -81,7 +81,7 @@ returns c =
     let l = c .before .loop in
     let f = tieFrom (tableOf (at .args .table .now)) in
     let few = at .pre .1 .1 .1 .held .few in
-    sym (between-slot f (at .args .order .now) (at .args .count) (f (at .args .i)) (omega arith) (l .low) (l .high) (omega arith) (l .inv))
+    (sym (between-slot f (at .args .order .now) (at .args .count) (f (at .args .i)) (omega arith) (l .low) (l .high) (omega arith) (l .inv)), omega arith)
 
 pub slot-of-spec : {M : Type 1} → statement M
 slot-of-spec =

@@ -11,16 +11,16 @@ use Rattle.table.proofs.ties.tie_length.Statement.{statement}
 use Rattle.table.proofs.ties.tie_length.Tie as tie
 
 abbrev Inv-loop : tie.InvT-loop
-Inv-loop table i k₀ j₀ k j = (j ≤ getD table 3 0) × (k + length (tieFrom (tableOf table) j) ≡ length (tieFrom (tableOf table) i))
+Inv-loop table i number₀ j₀ number j = (j ≤ getD table 3 0) × (number + length (tieFrom (tableOf table) j) ≡ length (tieFrom (tableOf table) i))
 
 abbrev μ-loop : tie.MeasureT-loop
-μ-loop table i k₀ j₀ k j = j
+μ-loop table i number₀ j₀ number j = j
 
 loop-holds : tie.Need-loop-holds Inv-loop μ-loop
 loop-holds c = omega arith
 
-add-k : tie.Need-add-k Inv-loop μ-loop
-add-k c =
+add-number : tie.Need-add-number Inv-loop μ-loop
+add-number c =
     let at = c .before .before .before in
     let few = tie-few (at .args .table .now) (at .pre .0) (at .args .i) (at .pre .1) in
     omega arith
@@ -51,4 +51,4 @@ returns c =
 pub tie-length-spec : {M : Type 1} → statement M
 tie-length-spec =
     tie.close
-    (tie.spec Inv-loop μ-loop loop-holds add-k next-tied-requires loop-less loop-again returns)
+    (tie.spec Inv-loop μ-loop loop-holds add-number next-tied-requires loop-less loop-again returns)

@@ -1,14 +1,11 @@
 -- The records held begin the sorted ties of the states from s on. The measure is s. Assumes nothing.
-use mathlib.Core.Path.{_≡_, sym, subst, _∙_}
+use mathlib.Core.Path.{_≡_, sym, subst}
 use mathlib.Core.List.{List}
 use Prim.Native.Nat.{ℕ, _+_, _-_}
 use native.Mathlib.Omega.{arith}
-use lib.ListN.{length, getD, replicate, length-replicate}
-use Rattle.rules.specs.Table.{tableOf}
-use Rattle.table.specs.Chains.{tieFrom}
 use Rattle.table.proofs.Records.{sizes}
-use Rattle.table.proofs.Conflicts.{down-out, down-free, down-tied}
-use Rattle.table.proofs.Orders.{Sorting, sorting-none, sorting-order, sorting-place, sorting-pass, sorting-more, sorting-done}
+use Rattle.table.proofs.Conflicts.{down-free, down-tied}
+use Rattle.table.proofs.Orders.{Sorting, sorting-none, sorting-order, sorting-pass, sorting-more, sorting-done}
 use Rattle.table.proofs.ties.tie_order.Statement.{statement}
 use Rattle.table.proofs.ties.tie_order.Tie as tie
 
@@ -28,36 +25,31 @@ loop-holds c =
 sub-s : tie.Need-sub-s Inv-loop μ-loop
 sub-s c = omega arith
 
-element-copy-out-if1 : tie.Need-element-copy-out-if1 Inv-loop μ-loop
-element-copy-out-if1 c = let z = sizes _ (c .before .before .before .before .pre) in omega arith
-
 tied-requires : tie.Need-tied-requires Inv-loop μ-loop
 tied-requires c κs = omega arith
 
 slot-of-requires : tie.Need-slot-of-requires Inv-loop μ-loop
 slot-of-requires c κs =
-    let at = c .before .before .before .before .before .before .before .before .before in
-    let l = c .before .before .before .before .before .before .loop in
+    let at = c .before .before .before .before .before .before .before in
+    let l = c .before .before .before .before .loop in
     (at .pre, (l .inv .long, (c .before .before .tied .ensures .1, sorting-order (at .args .table .now) (at .pre) (at .args .set .now) (l .s) (l .order) (l .count) (l .inv))))
 
 cast-put-in : tie.Need-cast-put-in Inv-loop μ-loop
 cast-put-in c =
-    let z = sizes _ (c .before .before .before .before .before .before .before .before .before .before .before .pre) in
+    let z = sizes _ (c .before .before .before .before .before .before .before .before .before .pre) in
     let b = c .before .before .before .before .tied .ensures .1 in
     omega arith
 
 put-in-requires : tie.Need-put-in-requires Inv-loop μ-loop
 put-in-requires c κs =
-    let at = c .before .before .before .before .before .before .before .before .before .before .before in
-    let l = c .before .before .before .before .before .before .before .before .loop in
-    let z = sizes _ (at .pre) in
+    let l = c .before .before .before .before .before .before .loop in
+    let z = sizes _ (c .before .before .before .before .before .before .before .before .before .pre) in
     let f = l .inv .few in
-    let p = c .before .slot-of in
-    (l .inv .long, (omega arith, sorting-place (at .args .table .now) (at .pre) (at .args .set .now) (l .s) (l .order) (l .count) (l .inv) (c .before .before .before .before .tied .result) (p .result) (p .ensures)))
+    (l .inv .long, (omega arith, c .before .slot-of .ensures .1))
 
 add-count : tie.Need-add-count Inv-loop μ-loop
 add-count c =
-    let z = sizes _ (c .before .before .before .before .before .before .before .before .before .before .before .before .pre) in omega arith
+    let z = sizes _ (c .before .before .before .before .before .before .before .before .before .before .pre) in omega arith
 
 loop-less : tie.Need-loop-less Inv-loop μ-loop
 loop-less c = omega arith
@@ -66,38 +58,26 @@ loop-again : tie.Need-loop-again Inv-loop μ-loop
 loop-again c =
     let slot = c .before .before .slot-of in
     let i = c .before .before .before .before .before .tied in
-    let l = c .before .before .before .before .before .before .before .before .before .loop in
-    let at = c .before .before .before .before .before .before .before .before .before .before .before .before in
+    let l = c .before .before .before .before .before .before .before .loop in
+    let at = c .before .before .before .before .before .before .before .before .before .before in
     let w = at .args .table .now in
     let set = at .args .set .now in
     subst (λ (o : List ℕ). Sorting w set (l .s - 1) o (l .count + 1)) (sym (c .put-in .ensures))
-    (sorting-more w (at .pre) set (l .s) (l .order) (l .count) (l .inv) (omega arith) (i .result) (slot .result) (i .ensures .1) (slot .ensures)
-    (down-tied w (at .pre) set (l .s) (omega arith) (l .inv .inside) (c .before .before .before .before .before .before .if1 .taken) (i .result) (i .ensures .0) (c .before .before .before .before .if2 .taken)))
+    (sorting-more w (at .pre) set (l .s) (l .order) (l .count) (l .inv) (omega arith) (i .result) (slot .result) (i .ensures .1) (slot .ensures .0) (slot .ensures .1)
+    (down-tied w (at .pre) set (l .s) (omega arith) (l .inv .inside) (i .result) (i .ensures .0) (c .before .before .before .before .if1 .taken)))
 
 loop-less-2 : tie.Need-loop-less-2 Inv-loop μ-loop
 loop-less-2 c = omega arith
 
 loop-again-2 : tie.Need-loop-again-2 Inv-loop μ-loop
 loop-again-2 c =
-    let l = c .before .before .before .before .before .loop in
-    let at = c .before .before .before .before .before .before .before .before in
-    let w = at .args .table .now in
-    let set = at .args .set .now in
     let i = c .before .tied in
-    sorting-pass w (at .pre) set (l .s) (l .order) (l .count) (l .inv) (omega arith)
-    (down-free w (at .pre) set (l .s) (omega arith) (l .inv .inside) (c .before .before .if1 .taken) (i .result) (i .ensures .0) (c .if2 .left))
-
-loop-less-3 : tie.Need-loop-less-3 Inv-loop μ-loop
-loop-less-3 c = omega arith
-
-loop-again-3 : tie.Need-loop-again-3 Inv-loop μ-loop
-loop-again-3 c =
     let l = c .before .before .before .loop in
     let at = c .before .before .before .before .before .before in
     let w = at .args .table .now in
     let set = at .args .set .now in
     sorting-pass w (at .pre) set (l .s) (l .order) (l .count) (l .inv) (omega arith)
-    (down-out w (at .pre) set (l .s) (omega arith) (l .inv .inside) (c .if1 .left))
+    (down-free w (at .pre) set (l .s) (omega arith) (l .inv .inside) (i .result) (i .ensures .0) (c .if1 .left))
 
 returns : tie.Need-returns Inv-loop μ-loop
 returns c =
@@ -118,7 +98,6 @@ tie-order-spec =
     states-requires
     loop-holds
     sub-s
-    element-copy-out-if1
     tied-requires
     slot-of-requires
     cast-put-in
@@ -128,6 +107,4 @@ tie-order-spec =
     loop-again
     loop-less-2
     loop-again-2
-    loop-less-3
-    loop-again-3
     returns)

@@ -2,11 +2,10 @@
 use mathlib.Core.Path.{_≡_, sym, subst, _∙_}
 use Prim.Native.Nat.{ℕ}
 use native.Mathlib.Omega.{arith}
-use lib.ListN.{length, getD}
 use Rattle.rules.specs.Table.{tableOf}
 use Rattle.table.specs.Chains.{tieFrom}
 use Rattle.table.proofs.Records.{sizes}
-use Rattle.table.proofs.Conflicts.{Counted, counted-none, counted-pass, counted-more, down-out, down-free, down-tied, ties-number, ties-words}
+use Rattle.table.proofs.Conflicts.{Counted, counted-none, counted-pass, counted-more, down-free, down-tied, ties-number, ties-words}
 use Rattle.table.proofs.ties.tie_words.Statement.{statement}
 use Rattle.table.proofs.ties.tie_words.Tie as tie
 
@@ -27,65 +26,47 @@ loop-holds c =
 sub-s : tie.Need-sub-s Inv-loop μ-loop
 sub-s c = omega arith
 
-element-copy-out-if1 : tie.Need-element-copy-out-if1 Inv-loop μ-loop
-element-copy-out-if1 c = let z = sizes _ (c .before .before .before .before .pre) in omega arith
-
 tied-requires : tie.Need-tied-requires Inv-loop μ-loop
 tied-requires c κs = omega arith
 
 add-errors : tie.Need-add-errors Inv-loop μ-loop
-add-errors c =
-    let z = sizes _ (c .before .before .before .before .before .before .before .before .pre) in omega arith
+add-errors c = let z = sizes _ (c .before .before .before .before .before .before .pre) in omega arith
 
 tie-length-requires : tie.Need-tie-length-requires Inv-loop μ-loop
 tie-length-requires c κs = omega arith
 
 add-words : tie.Need-add-words Inv-loop μ-loop
-add-words c =
-    let z = sizes _ (c .before .before .before .before .before .before .before .before .before .pre) in omega arith
+add-words c = let z = sizes _ (c .before .before .before .before .before .before .before .pre) in omega arith
 
 add-words-2 : tie.Need-add-words-2 Inv-loop μ-loop
-add-words-2 c =
-    let z = sizes _ (c .before .before .before .before .before .before .before .before .before .pre) in omega arith
+add-words-2 c = let z = sizes _ (c .before .before .before .before .before .before .before .pre) in omega arith
 
 loop-less : tie.Need-loop-less Inv-loop μ-loop
 loop-less c = omega arith
 
 loop-again : tie.Need-loop-again Inv-loop μ-loop
 loop-again c =
-    let l = c .before .before .before .before .before .before .loop in
-    let at = c .before .before .before .before .before .before .before .before .before in
+    let i = c .before .before .tied in
+    let l = c .before .before .before .before .loop in
+    let at = c .before .before .before .before .before .before .before in
     let w = at .args .table .now in
     let set = at .args .set .now in
-    let i = c .before .before .tied in
     counted-more w set (l .s) (l .errors) (l .words) (omega arith) (l .inv) (tieFrom (tableOf w) (i .result)) (c .tie-length .result)
     (c .tie-length .ensures .0) (c .tie-length .ensures .1)
-    (down-tied w (at .pre) set (l .s) (omega arith) (l .inv .inside) (c .before .before .before .if1 .taken) (i .result) (i .ensures .0) (c .before .if2 .taken))
+    (down-tied w (at .pre) set (l .s) (omega arith) (l .inv .inside) (i .result) (i .ensures .0) (c .before .if1 .taken))
 
 loop-less-2 : tie.Need-loop-less-2 Inv-loop μ-loop
 loop-less-2 c = omega arith
 
 loop-again-2 : tie.Need-loop-again-2 Inv-loop μ-loop
 loop-again-2 c =
-    let l = c .before .before .before .before .before .loop in
-    let at = c .before .before .before .before .before .before .before .before in
-    let w = at .args .table .now in
-    let set = at .args .set .now in
     let i = c .before .tied in
-    counted-pass w set (l .s) (l .errors) (l .words) (omega arith) (l .inv)
-    (down-free w (at .pre) set (l .s) (omega arith) (l .inv .inside) (c .before .before .if1 .taken) (i .result) (i .ensures .0) (c .if2 .left))
-
-loop-less-3 : tie.Need-loop-less-3 Inv-loop μ-loop
-loop-less-3 c = omega arith
-
-loop-again-3 : tie.Need-loop-again-3 Inv-loop μ-loop
-loop-again-3 c =
     let l = c .before .before .before .loop in
     let at = c .before .before .before .before .before .before in
     let w = at .args .table .now in
     let set = at .args .set .now in
     counted-pass w set (l .s) (l .errors) (l .words) (omega arith) (l .inv)
-    (down-out w (at .pre) set (l .s) (omega arith) (l .inv .inside) (c .if1 .left))
+    (down-free w (at .pre) set (l .s) (omega arith) (l .inv .inside) (i .result) (i .ensures .0) (c .if1 .left))
 
 returns : tie.Need-returns Inv-loop μ-loop
 returns c =
@@ -106,7 +87,6 @@ tie-words-spec =
     states-requires
     loop-holds
     sub-s
-    element-copy-out-if1
     tied-requires
     add-errors
     tie-length-requires
@@ -116,6 +96,4 @@ tie-words-spec =
     loop-again
     loop-less-2
     loop-again-2
-    loop-less-3
-    loop-again-3
     returns)

@@ -1,11 +1,11 @@
 -- The errors of the leaves from l on are still to be written. The measure is how many those leaves are. Assumes nothing.
-use mathlib.Core.Path.{_≡_, sym, ap, ap₂, subst, subst₂, _∙_}
-use mathlib.Core.List.{List, [], _∷_, _++_}
+use mathlib.Core.Path.{_≡_, sym, ap, ap₂, subst₂, _∙_}
+use mathlib.Core.List.{List}
 use mathlib.Core.Logic.{⊎-elim}
-use Prim.Native.Nat.{ℕ, _+_, _-_, _≤_, _<_}
+use Prim.Native.Nat.{ℕ, _+_, _-_, _≤_}
 use native.Mathlib.Numerals.{add-one, add-two}
 use native.Mathlib.Omega.{arith}
-use lib.ListN.{length, getD, set, length-set, length-append}
+use lib.ListN.{length, getD, set, length-set}
 use Rattle.lists.proofs.Runs.{Underway, run-begun, run-more, run-room}
 use Rattle.rules.specs.Table.{tableOf, leafAt}
 use Rattle.rules.specs.Build.{emptyMatch, errorWords}
@@ -25,20 +25,19 @@ abbrev μ-loop : tie.MeasureT-loop
 μ-loop table errors₀ m at₀ l₀ errors at l = getD table 2 0 - l
 
 -- the flag that a turn reads
-flag : (c : tie.After-word Inv-loop μ-loop) → c .word .result ≡ leafAt (tableOf (c .before .before .before .before .before .before .before .args .table .now)) (c .before .before .before .loop .l) .empty
+flag : (c : tie.After-leaf-word Inv-loop μ-loop) → c .leaf-word .result ≡ leafAt (tableOf (c .before .before .before .before .before .before .args .table .now)) (c .before .before .loop .l) .empty
 flag c =
-    let at = c .before .before .before .before .before .before .before in
-    let w = at .args .table .now in
-    c .word .ensures .0 ∙ ap (λ (k : ℕ). getD w k 0) (c .before .leaf-place .ensures) ∙ sym (empty-word w (c .before .before .before .loop .l) (omega arith))
+    let at = c .before .before .before .before .before .before in
+    c .leaf-word .ensures .0 ∙ sym (empty-word (at .args .table .now) (c .before .before .loop .l) (omega arith))
 
 -- the error that a turn writes has room
 room : (c : tie.Then1 Inv-loop μ-loop)
-    → (c .before .before .before .before .loop .at + 3 ≤ length (c .before .before .before .before .loop .errors))
-    × (length (c .before .before .before .before .loop .errors) ≡ length (c .before .before .before .before .before .before .before .before .args .errors .now))
+    → (c .before .before .before .loop .at + 3 ≤ length (c .before .before .before .loop .errors))
+    × (length (c .before .before .before .loop .errors) ≡ length (c .before .before .before .before .before .before .before .args .errors .now))
 room c =
-    let at = c .before .before .before .before .before .before .before .before in
+    let at = c .before .before .before .before .before .before .before in
     let w = at .args .table .now in
-    let l = c .before .before .before .before .loop in
+    let l = c .before .before .before .loop in
     let e = ap length (empties-yes (tableOf w) (getD w 2 0) (l .l) (omega arith) (sym (flag (c .before)) ∙ c .if1 .taken)) in
     let h : 0 + length (emptyWords (emptiesOn (tableOf w) (getD w 2 0) 0)) ≤ length (at .args .errors .now) = omega arith in
     let r = run-room h (l .inv .2) in
@@ -55,11 +54,8 @@ loop-holds c =
     let e = ap (λ (l : List ℕ). length (emptyWords l)) (empties-all w (at .pre .0)) in
     (omega arith, omega arith, run-begun (at .args .errors .now) 0 (emptyWords (emptiesOn (tableOf w) (getD w 2 0) 0)))
 
-leaf-place-requires : tie.Need-leaf-place-requires Inv-loop μ-loop
-leaf-place-requires c κs = let z = sizes _ (c .before .before .before .before .before .pre .0) in omega arith
-
-word-requires : tie.Need-word-requires Inv-loop μ-loop
-word-requires c κs = let z = sizes _ (c .before .before .before .before .before .before .pre .0) in omega arith
+leaf-word-requires : tie.Need-leaf-word-requires Inv-loop μ-loop
+leaf-word-requires c κs = let z = sizes _ (c .before .before .before .before .before .pre .0) in omega arith
 
 mul-errors : tie.Need-mul-errors Inv-loop μ-loop
 mul-errors c = let r = room c in omega arith
@@ -77,8 +73,7 @@ slice-write-errors-2 : tie.Need-slice-write-errors-2 Inv-loop μ-loop
 slice-write-errors-2 c = let r = room c in simp length-set (omega arith)
 
 cast-errors : tie.Need-cast-errors Inv-loop μ-loop
-cast-errors c =
-    let z = sizes _ (c .before .before .before .before .before .before .before .before .pre .0) in omega arith
+cast-errors c = let z = sizes _ (c .before .before .before .before .before .before .before .pre .0) in omega arith
 
 add-errors-2 : tie.Need-add-errors-2 Inv-loop μ-loop
 add-errors-2 c = let r = room c in omega arith
@@ -93,16 +88,15 @@ add-at : tie.Need-add-at Inv-loop μ-loop
 add-at c = let r = room c in omega arith
 
 add-l : tie.Need-add-l Inv-loop μ-loop
-add-l c =
-    let z = sizes _ (c .before .before .before .before .before .before .before .before .pre .0) in omega arith
+add-l c = let z = sizes _ (c .before .before .before .before .before .before .before .pre .0) in omega arith
 
 loop-less : tie.Need-loop-less Inv-loop μ-loop
 loop-less c = omega arith
 
 loop-again : tie.Need-loop-again Inv-loop μ-loop
 loop-again c =
-    let at = c .before .before .before .before .before .before .before .before in
-    let l = c .before .before .before .before .loop in
+    let at = c .before .before .before .before .before .before .before in
+    let l = c .before .before .before .loop in
     let w = at .args .table .now in
     let t = tableOf w in
     let m = getD w 2 0 in
@@ -142,8 +136,7 @@ write-empty-spec =
     μ-loop
     leaves-requires
     loop-holds
-    leaf-place-requires
-    word-requires
+    leaf-word-requires
     mul-errors
     slice-write-errors
     add-errors

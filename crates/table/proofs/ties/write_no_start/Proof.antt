@@ -1,7 +1,5 @@
 -- Two words from the front. Assumes nothing.
-use mathlib.Core.Path.{_∙_}
 use mathlib.Core.List.{[], _∷_, flatMap}
-use lib.Seq.{sets}
 use Rattle.lists.proofs.Buffers.{sets-front}
 use borrow.Author.Needs.{needs}
 use Rattle.table.proofs.ties.write_no_start.Statement.{statement}

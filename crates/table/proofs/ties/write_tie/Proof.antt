@@ -1,6 +1,6 @@
 -- After the kind and the number, the leaves from record j on are still to be written. The measure is j: the next tied record is below it. Assumes nothing.
-use mathlib.Core.Path.{_≡_, sym, ap, ap₂, subst₂, _∙_}
-use mathlib.Core.List.{List, [], _∷_}
+use mathlib.Core.Path.{_≡_, sym, ap, ap₂, _∙_}
+use mathlib.Core.List.{List, _∷_}
 use Prim.Native.Nat.{ℕ, _+_, _≤_, _<_}
 use native.Mathlib.Numerals.{add-one, add-two}
 use native.Mathlib.Omega.{arith}

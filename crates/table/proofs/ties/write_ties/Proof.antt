@@ -1,7 +1,7 @@
 -- The errors of the ties from the k-th on are still to be written. The measure is how many they are. Assumes nothing.
 use mathlib.Core.Path.{_≡_, sym, ap, subst₂, _∙_}
-use mathlib.Core.List.{List, _++_, flatMap}
-use Prim.Native.Nat.{ℕ, _+_, _-_, _≤_, _<_}
+use mathlib.Core.List.{List, flatMap}
+use Prim.Native.Nat.{ℕ, _+_, _-_, _≤_}
 use native.Mathlib.Omega.{arith}
 use lib.ListN.{length, getD, take, drop, length-append}
 use Rattle.lists.proofs.Runs.{Underway, run-begun, run-more, run-room}

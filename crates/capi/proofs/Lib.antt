@@ -1,0 +1,3 @@
+pub mod ScanNumbers
+pub mod Blocks
+pub mod HeldStores

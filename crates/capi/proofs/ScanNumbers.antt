@@ -1,0 +1,99 @@
+-- A scan's number tells the scan, and a call that refuses leaves it as found: each refusal of `next` and of `scan_list` hands back the scan that
+-- came in, whose number is the one that came in. Assumes nothing.
+use mathlib.Core.Path.{_≡_, refl, sym, ap, _∙_}
+use mathlib.Core.List.{List}
+use Prim.Native.Nat.{ℕ, _/_, _<_}
+use native.Mathlib.Omega.{arith}
+use borrow.Author.Tests.{eqb-true, ne-eqb}
+use lib.Dec.{eqb, ltb}
+use lib.ListN.{length, drop}
+use Rattle.lists.specs.Told.{Told}
+use Rattle.lists.proofs.Bools.{Is, yes-is, no-is, is}
+use Rattle.rules.specs.Graph.{Graph, graphFits, graphFrom}
+use Rattle.plans.specs.declared.scan.Place.{Place}
+use Rattle.plans.specs.declared.scan.Place.the-variants.{Reading, Ended}
+use Rattle.plans.specs.declared.scan.Scan.{Scan}
+use Rattle.plans.specs.declared.scan.Answer.{Answer}
+use Rattle.plans.specs.declared.scan.Answer.the-variants.{Token, Gap, Ended as AtEnd, Refused}
+use Rattle.plans.specs.declared.scan.Entry.{Entry}
+use Rattle.rules.specs.Read.{readGraph}
+use Rattle.plans.specs.Scan.{readingAt, hasEnded, scanTold, entryOf, scannedBy, scanFrom, scanAt, scanOf as scannedOf, next}
+use Rattle.plans.specs.List.{Listing, listFor, listTold, unlessRefused, scanList}
+use Rattle.capi.specs.Scans.{ended, scanOf, numberOf}
+
+-- ---- number to scan and back
+
+pub number-back : (n : ℕ) → numberOf (scanOf n) ≡ n
+unfolding scanOf
+number-back n = go (is (eqb n ended))
+  where
+    go : Is (eqb n ended) → numberOf (scanOf n) ≡ n
+    go (yes-is q) = rw q (sym (eqb-true n ended q))
+    go (no-is q) = rw q
+
+-- an offset in a text is below the greatest `size_t`
+pub reading-back : (offset : ℕ) → offset < ended → scanOf (numberOf (readingAt offset)) ≡ readingAt offset
+unfolding scanOf
+reading-back offset h = rw (ne-eqb offset ended (λ e. omega arith))
+
+pub ended-back : scanOf (numberOf hasEnded) ≡ hasEnded
+unfolding scanOf
+ended-back = refl
+
+-- ---- a refusal leaves the scan
+
+abbrev Refuses : Told → Type 0
+Refuses t = t .refusal ≡ 0 → ⊥
+
+entry-answers : (offset : ℕ) (e : Entry) → scanTold (scannedBy offset e .answer) .refusal ≡ 0
+entry-answers offset e = go (is (e .token))
+  where
+    go : Is (e .token) → scanTold (scannedBy offset e .answer) .refusal ≡ 0
+    go (yes-is q) = rw q
+    go (no-is q) = rw q
+
+from-answers : (g : Graph) (text : List ℕ) (offset : ℕ) → scanTold (scanFrom g text offset .answer) .refusal ≡ 0
+from-answers g text offset = go (is (eqb offset (length text)))
+  where
+    go : Is (eqb offset (length text)) → scanTold (scanFrom g text offset .answer) .refusal ≡ 0
+    go (yes-is q) = rw (q, scanFrom)
+    go (no-is q) = rw (q, scanFrom) (entry-answers offset (entryOf text offset (readGraph g (drop offset text))))
+
+place-keeps : (g : Graph) (text : List ℕ) (p : Place) → Refuses (scanTold (scanAt g text p .answer)) → scanAt g text p .scan ≡ record { place = p }
+place-keeps g text Ended refused = refl
+place-keeps g text (Reading offset) refused = go (is (ltb (length text) offset))
+  where
+    go : Is (ltb (length text) offset) → scanAt g text (Reading offset) .scan ≡ readingAt offset
+    go (yes-is q) = rw (q, scanAt)
+    go (no-is q) = absurd (refused (rw (q, scanAt) (from-answers g text offset)))
+
+next-keeps : (graph text : List ℕ) (s : Scan) → Refuses (scanTold (next graph text s .answer)) → next graph text s .scan ≡ s
+unfolding next
+next-keeps graph text s refused = go (is (graphFits graph))
+  where
+    go : Is (graphFits graph) → next graph text s .scan ≡ s
+    go (yes-is q) = rw (q, next) (place-keeps (graphFrom graph) text (s .place) (rw (q, next) at refused))
+    go (no-is q) = rw (q, next)
+
+list-keeps : (graph text buffer : List ℕ) (s : Scan) → Refuses (listTold (scanList graph text s buffer .listed .answer)) → scanList graph text s buffer .listed .scan ≡ s
+unfolding scanList
+list-keeps graph text buffer s refused = go (is (graphFits graph))
+  where
+    told : (a : Answer) (l : Listing) → Refuses (listTold (unlessRefused a s buffer l .listed .answer)) → unlessRefused a s buffer l .listed .scan ≡ s
+    told (Token leaf start end) l r = absurd (r refl)
+    told (Gap start end) l r = absurd (r refl)
+    told AtEnd l r = absurd (r refl)
+    told (Refused n) l r = refl
+
+    go : Is (graphFits graph) → scanList graph text s buffer .listed .scan ≡ s
+    go (yes-is q) = rw (q, scanList) (told (scannedOf (graphFrom graph) text s .answer) (listFor (graphFrom graph) text (length buffer / 3) s) (rw (q, scanList) at refused))
+    go (no-is q) = rw (q, scanList)
+
+-- ---- and so its number
+
+pub next-leaves : (graph text : List ℕ) (n : ℕ) → Refuses (scanTold (next graph text (scanOf n) .answer)) → numberOf (next graph text (scanOf n) .scan) ≡ n
+next-leaves graph text n refused = ap numberOf (next-keeps graph text (scanOf n) refused) ∙ number-back n
+
+pub list-leaves : (graph text buffer : List ℕ) (n : ℕ) → Refuses (listTold (scanList graph text (scanOf n) buffer .listed .answer))
+    → numberOf (scanList graph text (scanOf n) buffer .listed .scan) ≡ n
+list-leaves graph text buffer n refused = ap numberOf (list-keeps graph text buffer (scanOf n) refused) ∙ number-back n

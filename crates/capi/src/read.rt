@@ -1,0 +1,53 @@
+// The readings of a text.
+ghost use mathlib.Core.Path.{_≡_};
+ghost use mathlib.Core.List.{[], _∷_};
+ghost use Rattle.lists.specs.Told.{Told};
+ghost use Rattle.graph.specs.Answers.{readTold, graphRead, tableRead};
+use graph::read::Read;
+
+// A reading, stored.
+fn store(answer: Read, found: &mut usize, leaf: &mut usize, end: &mut usize) -> u8
+    ensures { λ r. ⌜ readTold answer ≡ record { refusal = r; values = now (found .exit) ∷ now (leaf .exit) ∷ now (end .exit) ∷ [] } ⌝ }
+{
+    *found = 0;
+    *leaf = 0;
+    *end = 0;
+    match answer {
+        Read::Found(l, e) => {
+            *found = 1;
+            *leaf = l;
+            *end = e;
+            0
+        }
+        Read::Nothing => 0,
+        Read::Refused(n) => n,
+    }
+}
+
+// `read_graph`.
+#[no_mangle]
+pub extern "C" fn balthwyr_read_graph(
+    graph: &[u16],
+    text: &[u8],
+    found: &mut usize,
+    leaf: &mut usize,
+    end: &mut usize,
+) -> u8
+    ensures { λ r. ⌜ readTold (graphRead (now (graph .entry)) (now (text .entry))) ≡ record { refusal = r; values = now (found .exit) ∷ now (leaf .exit) ∷ now (end .exit) ∷ [] } ⌝ }
+{
+    store(graph::read::read_graph(graph, text), found, leaf, end)
+}
+
+// `read_table`.
+#[no_mangle]
+pub extern "C" fn balthwyr_read_table(
+    table: &[u16],
+    text: &[u8],
+    found: &mut usize,
+    leaf: &mut usize,
+    end: &mut usize,
+) -> u8
+    ensures { λ r. ⌜ readTold (tableRead (now (table .entry)) (now (text .entry))) ≡ record { refusal = r; values = now (found .exit) ∷ now (leaf .exit) ∷ now (end .exit) ∷ [] } ⌝ }
+{
+    store(graph::read_table::read_table(table, text), found, leaf, end)
+}

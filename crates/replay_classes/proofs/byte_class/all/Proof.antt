@@ -1,0 +1,76 @@
+-- `byte_class::all` is safe and ends. The measure is what is left of the classes. Assumes nothing.
+use borrow.Author.Needs.{needs}
+use Prim.Native.Nat.{_-_}
+use lib.ListN.{length}
+use mathlib.Core.Path.{_≡_}
+use Rattle.replay_classes.proofs.byte_class.all.Statement.{statement}
+use Rattle.replay_classes.proofs.byte_class.all.Tie as tie
+
+abbrev Inv-loop : tie.InvT-loop
+Inv-loop list at places₀ n t₀ i₀ places t i = length places ≡ length places₀
+
+abbrev μ-loop : tie.MeasureT-loop
+μ-loop list at places₀ n t₀ i₀ places t i = n - i
+
+word-requires : tie.Need-word-requires Inv-loop μ-loop
+word-requires c κs = search needs
+
+after-requires : tie.Need-after-requires Inv-loop μ-loop
+after-requires c κs = search needs
+
+begun-requires : tie.Need-begun-requires Inv-loop μ-loop
+begun-requires c κs = search needs
+
+loop-holds : tie.Need-loop-holds Inv-loop μ-loop
+loop-holds c = search needs
+
+same-length : tie.Need-same-length Inv-loop μ-loop
+same-length c = search needs
+
+returns : tie.Need-returns Inv-loop μ-loop
+returns c = search needs
+
+keep-requires : tie.Need-keep-requires Inv-loop μ-loop
+keep-requires c κs = search needs
+
+class-alike-requires : tie.Need-class-alike-requires Inv-loop μ-loop
+class-alike-requires c κs = search needs
+
+noted-requires : tie.Need-noted-requires Inv-loop μ-loop
+noted-requires c κs = search needs
+
+add-i : tie.Need-add-i Inv-loop μ-loop
+add-i c = search needs
+
+loop-less : tie.Need-loop-less Inv-loop μ-loop
+loop-less c = search needs
+
+loop-again : tie.Need-loop-again Inv-loop μ-loop
+loop-again c = search needs
+
+same-length-2 : tie.Need-same-length-2 Inv-loop μ-loop
+same-length-2 c = search needs
+
+returns-2 : tie.Need-returns-2 Inv-loop μ-loop
+returns-2 c = search needs
+
+pub all-spec : {M : Type 1} → statement M
+all-spec =
+    tie.close
+    (tie.spec
+    Inv-loop
+    μ-loop
+    word-requires
+    after-requires
+    begun-requires
+    loop-holds
+    same-length
+    returns
+    keep-requires
+    class-alike-requires
+    noted-requires
+    add-i
+    loop-less
+    loop-again
+    same-length-2
+    returns-2)

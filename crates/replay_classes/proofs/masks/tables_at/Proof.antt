@@ -1,0 +1,52 @@
+-- `masks::tables_at` is safe and ends. The measure is what is left of the 2,048 bytes. Assumes nothing.
+use borrow.Author.Needs.{needs}
+use Prim.Native.Nat.{_-_, _≤_}
+use lib.ListN.{length}
+use mathlib.Core.Path.{_≡_}
+use Rattle.replay_classes.proofs.masks.tables_at.Statement.{statement}
+use Rattle.replay_classes.proofs.masks.tables_at.Tie as tie
+
+abbrev Inv-loop : tie.InvT-loop
+Inv-loop list at tables₀ i₀ tables i = (i ≤ 2048) × (length tables ≡ 2048)
+
+abbrev μ-loop : tie.MeasureT-loop
+μ-loop list at tables₀ i₀ tables i = 2048 - i
+
+loop-holds : tie.Need-loop-holds Inv-loop μ-loop
+loop-holds c = search needs
+
+after-requires : tie.Need-after-requires Inv-loop μ-loop
+after-requires c κs = search needs
+
+byte-requires : tie.Need-byte-requires Inv-loop μ-loop
+byte-requires c κs = search needs
+
+array-write-tables : tie.Need-array-write-tables Inv-loop μ-loop
+array-write-tables c = search needs
+
+add-i : tie.Need-add-i Inv-loop μ-loop
+add-i c = search needs
+
+loop-less : tie.Need-loop-less Inv-loop μ-loop
+loop-less c = search needs
+
+loop-again : tie.Need-loop-again Inv-loop μ-loop
+loop-again c = search needs
+
+returns : tie.Need-returns Inv-loop μ-loop
+returns c = search needs
+
+pub tables-at-spec : {M : Type 1} → statement M
+tables-at-spec =
+    tie.close
+    (tie.spec
+    Inv-loop
+    μ-loop
+    loop-holds
+    after-requires
+    byte-requires
+    array-write-tables
+    add-i
+    loop-less
+    loop-again
+    returns)

@@ -1,0 +1,3 @@
+pub mod PastEnd
+pub mod Equal
+pub mod Rest
