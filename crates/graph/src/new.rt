@@ -1,13 +1,13 @@
 // The build (document 01, "The build, as `Graph::new` does it after the DFA is built"): from a table's words to the graph's words and the
 // conflicts. All that can refuse is decided before a word is written.
 ghost use mathlib.Core.Path.{_≡_};
-ghost use mathlib.Core.Bool.{true, false};
+ghost use mathlib.Core.Bool.{false};
 ghost use mathlib.Core.Option.{some};
 ghost use mathlib.Core.List.{[], _∷_, _++_, map};
 ghost use Prim.Native.Nat.{_+_, _-_, _*_, _≤_};
 ghost use lib.ListN.{length, getD, drop, replicate};
 ghost use Rattle.rules.specs.Table.{tableOf, refusal};
-ghost use Rattle.rules.specs.Graph.{graphBuffer, graphFits, graphFrom};
+ghost use Rattle.rules.specs.Graph.{graphBuffer};
 ghost use Rattle.rules.specs.Build.{noUniversalStart, emptyMatch, emptyLeaves, noStates, reached, unpruned, pruned, merged, buildFrom};
 ghost use Rattle.graph.specs.New.{Outcome, wroteOr9, newOf};
 
@@ -92,8 +92,8 @@ fn write_graph(table: &[u16], start: usize, set: &[bool; 1024], graph: &mut [u16
     table::rows::write(table, start, set, graph);
     rewrite::early::early(graph);
     rewrite::clear::clear(graph);
-    prune(graph);
-    merge(graph);
+    rewrite::keep::prune(graph);
+    rewrite::merge::merge(graph);
 }
 
 // Rules 2 to 8, from a start, where no leaf can match empty text.
@@ -149,15 +149,3 @@ pub fn new(table: &[u16], graph: &mut [u16], errors: &mut [u16]) -> Answer
     }
     with_states(table, start, n, graph, errors)
 }
-
-fn prune(graph: &mut [u16])
-    requires { ⌜ graphFits (now graph) ≡ true ⌝ }
-    ensures { λ _. ⌜ now (graph .exit) ≡ graphBuffer (getD (now (graph .entry)) 0 0) (pruned (graphFrom (now (graph .entry)))) ++ drop (2 + 258 * getD (now (graph .entry)) 0 0) (now (graph .entry)) ⌝ }
-    ensures { λ _. ⌜ graphFits (now (graph .exit)) ≡ true ⌝ }
-{}
-
-fn merge(graph: &mut [u16])
-    requires { ⌜ graphFits (now graph) ≡ true ⌝ }
-    ensures { λ _. ⌜ now (graph .exit) ≡ graphBuffer (getD (now (graph .entry)) 0 0) (merged (graphFrom (now (graph .entry))) .graph) ++ drop (2 + 258 * getD (now (graph .entry)) 0 0) (now (graph .entry)) ⌝ }
-    ensures { λ _. ⌜ graphFits (now (graph .exit)) ≡ true ⌝ }
-{}

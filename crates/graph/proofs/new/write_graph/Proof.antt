@@ -11,8 +11,6 @@ use Rattle.graph.proofs.new.write_graph.Statement.{statement}
 use Rattle.graph.proofs.new.write_graph.Tie as tie
 use Rattle.graph.proofs.new.write_graph.Reads as reads
 use Rattle.graph.proofs.new.write_graph.Lts as lts
-use Rattle.graph.proofs.new.merge.Reads as merge-reads
-use Rattle.graph.proofs.new.prune.Reads as prune-reads
 use Rattle.rewrite.proofs.clear.clear.Reads as clear-reads
 use Rattle.rewrite.proofs.early.early.Reads as early-reads
 use Rattle.table.proofs.rows.write.Reads as write-reads
