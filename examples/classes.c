@@ -1,59 +1,99 @@
-/* Classes and masks from C: what a class costs to test, and its bit in the tables.
+/* Adds classes to a mask store, prints each one's number, cost and exceptions, and renders the store's tables.
  *
- * Prints:
- *   digits: cost 2, mask 0
- *   hex digits: cost 6, mask 1
- *   digits: cost 2, mask 0
- *   2 masks; '7' has bits 03, 'a' 02, 'x' 00
- *   a 65th class: refused 15
+ *   rt staticlib capi
+ *   gcc -Wall -Wextra -O2 -Iinclude examples/classes.c target/staticlib/libcapi.a -o classes
+ *   ./classes
+ *
+ * prints
+ *
+ *   5-10 12-16: number 0, cost 3, 1 joined, but 11
+ *   0-255: number 1, cost 0, 1 joined
+ *   7: number 2, cost 1, 1 joined
+ *   0-127 129-255: number 3, cost 1, 1 joined, but 128
+ *   7: number 2, cost 1, 1 joined
+ *   4 classes: byte 7 is in masks 0f, byte 8 in 0b, byte 11 in 0a, byte 128 in 02
+ *   64 classes, and one more: refused 15, 64 classes
  */
-#include "../include/balthwyr.h"
-
 #include <stdio.h>
+#include <stdlib.h>
 #include <string.h>
 
-static uint8_t tables[2048];
-static size_t count;
+#include "balthwyr.h"
 
-static void range(uint8_t *flags, int first, int last)
+static struct balthwyr_mask_store store;
+static uint8_t flags[256];
+
+/* the class of the bytes from first to last, and no others */
+static void only(int first, int last)
 {
-    for (int b = first; b <= last; b++)
-        flags[b] = 1;
+    memset(flags, 0, sizeof flags);
+    memset(flags + first, 1, (size_t)(last - first + 1));
 }
 
-static void add(const char *name, const uint8_t *flags)
+static void refused_if(uint8_t refusal)
 {
-    size_t ops, number;
-    balthwyr_cost(flags, 256, &ops);
-    uint8_t refusal = balthwyr_add_test_to_lut(tables, sizeof tables, &count, flags, 256, &number);
-    if (refusal != 0)
-        printf("%s: refused %u\n", name, refusal);
-    else
-        printf("%s: cost %zu, mask %zu\n", name, ops, number);
+    if (refusal) {
+        printf("refused %d\n", refusal);
+        exit(1);
+    }
+}
+
+static uint8_t add(size_t *number)
+{
+    return balthwyr_add_test_to_lut(store.tables, sizeof store.tables, &store.count, flags, sizeof flags, number);
+}
+
+static void print_class(void)
+{
+    struct balthwyr_range_parts ranges;
+    struct balthwyr_cmp_parts cmp;
+    size_t number, cost, ranges_count, cmp_count, at = 0;
+
+    refused_if(add(&number));
+    refused_if(balthwyr_cost(flags, sizeof flags, &cost));
+    refused_if(balthwyr_ranges(flags, sizeof flags, (uint8_t *)&ranges, sizeof ranges, &ranges_count));
+    refused_if(balthwyr_impl_with_cmp(flags, sizeof flags, (uint8_t *)&cmp, sizeof cmp, &cmp_count));
+
+    for (size_t i = 0; i < ranges_count; i++) {
+        printf("%s%d", i ? " " : "", ranges.first[i]);
+        if (ranges.first[i] < ranges.last[i]) {
+            printf("-%d", ranges.last[i]);
+        }
+    }
+    printf(": number %zu, cost %zu, %zu joined", number, cost, cmp_count);
+    for (size_t i = 0; i < cmp_count; i++) {
+        for (int j = 0; j < cmp.holes[i]; j++) {
+            printf(", but %d", cmp.except[at++]);
+        }
+    }
+    putchar('\n');
 }
 
 int main(void)
 {
-    uint8_t digits[256] = {0}, hex[256] = {0}, luts[2048];
+    uint8_t luts[8][256];
     size_t number;
-    range(digits, '0', '9');
-    range(hex, '0', '9');
-    range(hex, 'A', 'F');
-    range(hex, 'a', 'f');
-    add("digits", digits);
-    add("hex digits", hex);
-    add("digits", digits);
-    if (balthwyr_render_luts(tables, sizeof tables, count, luts, sizeof luts) != 0)
-        return 1;
-    printf("%zu masks; '7' has bits %02x, 'a' %02x, 'x' %02x\n", count, luts['7'], luts['a'], luts['x']);
-    for (int b = 0; count < 64; b++) {
-        uint8_t one[256] = {0};
-        one[b] = 1;
-        if (balthwyr_add_test_to_lut(tables, sizeof tables, &count, one, 256, &number) != 0)
-            return 1;
+
+    /* the bits of a store that counts no class mean nothing */
+    memset(store.tables, 0xa5, sizeof store.tables);
+    store.count = 0;
+
+    only(5, 16), flags[11] = 0, print_class();
+    only(0, 255), print_class();
+    only(7, 7), print_class();
+    only(0, 255), flags[128] = 0, print_class();
+    only(7, 7), print_class();
+
+    refused_if(balthwyr_render_luts(store.tables, sizeof store.tables, store.count, luts[0], sizeof luts));
+    printf("%zu classes: byte 7 is in masks %02x, byte 8 in %02x, byte 11 in %02x, byte 128 in %02x\n", store.count, luts[0][7],
+           luts[0][8], luts[0][11], luts[0][128]);
+
+    for (int b = 100; store.count < 64; b++) {
+        only(b, b), refused_if(add(&number));
     }
-    uint8_t all[256];
-    memset(all, 1, sizeof all);
-    add("a 65th class", all);
+    printf("%zu classes, and one more: ", store.count);
+    only(8, 8);
+    uint8_t refusal = add(&number);
+    printf("refused %d, %zu classes\n", refusal, store.count);
     return 0;
 }

@@ -1,9 +1,15 @@
-/* Balthwyr's calls for C: link target/staticlib/libcapi.a (see docs/C-INTERFACE.md).
+/* Balthwyr: a lexer generator after the DFA, for C. The functions are proved; docs/C-INTERFACE.md says how to link them.
  *
- * Each function returns the number of its refusal, 0 for none. On a refusal the
- * numbers that a call hands back are 0 and every other thing lent stays as it was.
- * A pointer with a length may be null only with length 0. A number that is handed
- * back goes through a pointer, which must not be null. */
+ * Every function returns the number of a refusal, or 0 where it answers. Document 01 has the numbers 1 to 16; BALTHWYR_SHORT is of this
+ * interface. What a function answers goes to the numbers and blocks that it is lent for that. On a refusal those numbers become 0, and every
+ * block, store and scan is as found.
+ *
+ * A pointer and the `size_t` after it are an array and the number of its elements. The caller sees to it that no pointer is null, also where
+ * there are no elements; that it points to as many elements as are told, aligned as their type asks; and that what a call may write overlaps
+ * nothing else that the call is lent.
+ *
+ * The library is for x86-64, so `size_t` has 64 bits. */
+
 #ifndef BALTHWYR_H
 #define BALTHWYR_H
 
@@ -14,68 +20,100 @@
 extern "C" {
 #endif
 
-/* ---- classes: byte b is in the class if flags[b] is there and not 0 */
+/* The refusal of a block that is shorter than what the call would write to it. */
+#define BALTHWYR_SHORT 255
 
-/* The operations that testing a byte by comparisons takes. */
-uint8_t balthwyr_cost(const uint8_t *flags, size_t flags_len, size_t *ops);
+/* ---- Readings
+ *
+ * *found is 1 if there is a reading, else 0; *leaf and *end are its leaf and where it ends, or 0. */
 
-/* The maximal ranges: 256 bytes of parts, 128 first bytes then 128 last bytes, of
- * which `count` are in use. 255 if parts is shorter. */
-uint8_t balthwyr_ranges(const uint8_t *flags, size_t flags_len,
-                        uint8_t *parts, size_t parts_len, size_t *count);
+/* The reading of a text by graph words. Refusals: 12. */
+uint8_t balthwyr_read_graph(const uint16_t *graph, size_t graph_len, const uint8_t *text, size_t text_len, size_t *found,
+                            size_t *leaf, size_t *end);
 
-/* The comparisons: 512 bytes of parts, 128 each of first bytes, last bytes, numbers
- * of exceptions, and all exceptions one after another. 255 if parts is shorter. */
-uint8_t balthwyr_impl_with_cmp(const uint8_t *flags, size_t flags_len,
-                               uint8_t *parts, size_t parts_len, size_t *count);
+/* The reading of a text by table words. Refusals: 1 to 7. */
+uint8_t balthwyr_read_table(const uint16_t *table, size_t table_len, const uint8_t *text, size_t text_len, size_t *found,
+                            size_t *leaf, size_t *end);
 
-/* ---- masks: a store is 2,048 bytes of tables and a count, both the caller's */
+/* ---- Scan
+ *
+ * A scan is a number that the caller holds: the offset that it is reading at, 0 at first, or BALTHWYR_ENDED once it has answered that it has
+ * ended. */
 
-/* The number of a class in the store, which grows by it if it is new; 15. */
-uint8_t balthwyr_add_test_to_lut(uint8_t *tables, size_t tables_len, size_t *count,
-                                 const uint8_t *flags, size_t flags_len,
-                                 size_t *number);
+#define BALTHWYR_ENDED SIZE_MAX
 
-/* The eight tables of 256 bytes one after another, unused bits 0, into the first
- * 2,048 bytes of luts; 15, or 255 if luts is shorter. */
-uint8_t balthwyr_render_luts(const uint8_t *tables, size_t tables_len, size_t count,
-                             uint8_t *luts, size_t luts_len);
+enum balthwyr_kind { BALTHWYR_END = 0, BALTHWYR_TOKEN = 1, BALTHWYR_GAP = 2 };
 
-/* ---- patterns: records of six 32-bit words, and the literals' bytes */
-
-/* The priority of a pattern tree; 10, 11. */
-uint8_t balthwyr_priority(const uint32_t *tree, size_t tree_len,
-                          const uint8_t *bytes, size_t bytes_len, size_t *value);
-
-/* 1 if the tree has a greedy unbounded repetition of a dot, else 0; 10. */
-uint8_t balthwyr_check_for_greedy_all(const uint32_t *tree, size_t tree_len,
-                                      const uint8_t *bytes, size_t bytes_len,
-                                      size_t *found);
-
-/* ---- readings: found is 1 with a leaf and where its match ends, or 0 */
-
-uint8_t balthwyr_read_table(const uint16_t *table, size_t table_len,
-                            const uint8_t *text, size_t text_len,
-                            size_t *found, size_t *leaf, size_t *end);
-
-uint8_t balthwyr_read_graph(const uint16_t *graph, size_t graph_len,
-                            const uint8_t *text, size_t text_len,
-                            size_t *found, size_t *leaf, size_t *end);
-
-/* ---- the scan: one number, the offset it is reading at, 0 at first, and SIZE_MAX
- * once it has ended */
-
-/* The next answer: kind 1 a token (leaf, start, end), 2 a gap (start, end), 0 ended;
- * 12, 14, 16. */
-uint8_t balthwyr_scan_next(const uint16_t *graph, size_t graph_len,
-                           const uint8_t *text, size_t text_len, size_t *scan,
+/* The next token or gap of a text, or the end. *kind is a `balthwyr_kind`; *leaf is a token's leaf, else 0; *start and *end are where it starts
+ * and ends, 0 at the end. Refusals: 12, 14, 16. */
+uint8_t balthwyr_scan_next(const uint16_t *graph, size_t graph_len, const uint8_t *text, size_t text_len, size_t *scan,
                            size_t *kind, size_t *leaf, size_t *start, size_t *end);
 
-/* As many entries as out has room for, three words each: start, end, and leaf or
- * 65,535 for a gap; 12, 14, 16. */
-uint8_t balthwyr_scan_list(const uint16_t *graph, size_t graph_len,
-                           const uint8_t *text, size_t text_len, size_t *scan,
+/* As many of the next tokens and gaps as `out` has room for, three words each: start, end, and leaf, or BALTHWYR_NO_LEAF of a gap. *entries is
+ * their number; the words after them are as found. *scan becomes BALTHWYR_ENDED where the text ends before the room does: so a list that leaves
+ * no room leaves a scan that may have nothing more to list. Refusals: 12, 14, 16. */
+#define BALTHWYR_NO_LEAF ((size_t)65535)
+
+uint8_t balthwyr_scan_list(const uint16_t *graph, size_t graph_len, const uint8_t *text, size_t text_len, size_t *scan,
                            size_t *out, size_t out_len, size_t *entries);
+
+/* ---- Classes
+ *
+ * A class is an array of flags: byte b is in it if flag b is there and not 0. So every array is a class, and 256 flags are enough. */
+
+/* The cost of a class: the operations that its comparisons take. Refusals: none. */
+uint8_t balthwyr_cost(const uint8_t *flags, size_t flags_len, size_t *cost);
+
+/* The maximal ranges of a class, ascending: *count of them, the entries after them being 0. They go to the front of a block of bytes.
+ * Refusals: BALTHWYR_SHORT. */
+struct balthwyr_range_parts {
+    uint8_t first[128];
+    uint8_t last[128];
+};
+
+uint8_t balthwyr_ranges(const uint8_t *flags, size_t flags_len, uint8_t *parts, size_t parts_len, size_t *count);
+
+/* The comparisons of a class, ascending: comparison i holds of the bytes first[i] to last[i] but its holes[i] exceptions. The exceptions of all
+ * stand one after another in `except`. Entries that are not in use are 0. Refusals: BALTHWYR_SHORT. */
+struct balthwyr_cmp_parts {
+    uint8_t first[128];
+    uint8_t last[128];
+    uint8_t holes[128];
+    uint8_t except[128];
+};
+
+uint8_t balthwyr_impl_with_cmp(const uint8_t *flags, size_t flags_len, uint8_t *parts, size_t parts_len, size_t *count);
+
+/* ---- Mask store
+ *
+ * A store is a block of BALTHWYR_TABLES bytes, eight tables of 256, and a count of masks: mask i is bit i mod 8 of table i / 8. Bits of masks
+ * from the count on mean nothing, so a store that counts 0 holds no class, whatever its bytes are. A block of another length is no store, and
+ * gets 15. */
+
+#define BALTHWYR_TABLES 2048
+
+struct balthwyr_mask_store {
+    uint8_t tables[BALTHWYR_TABLES];
+    size_t count;
+};
+
+/* The number of a class in the store, which takes the class if it lacks it. Refusals: 15. */
+uint8_t balthwyr_add_test_to_lut(uint8_t *tables, size_t tables_len, size_t *count, const uint8_t *flags, size_t flags_len,
+                                 size_t *number);
+
+/* The eight tables, unused bits 0, to the first BALTHWYR_TABLES bytes of `luts`; the rest is as found. Refusals: 15, BALTHWYR_SHORT. */
+uint8_t balthwyr_render_luts(const uint8_t *tables, size_t tables_len, size_t count, uint8_t *luts, size_t luts_len);
+
+/* ---- Patterns
+ *
+ * A tree is an array of words, six a record, with the bytes of its literals beside it. */
+
+/* The priority of a pattern. Refusals: 10, 11. */
+uint8_t balthwyr_priority(const uint32_t *tree, size_t tree_len, const uint8_t *bytes, size_t bytes_len, size_t *value);
+
+/* Whether a pattern has a greedy unbounded repetition of a dot: *found is 1 or 0. Refusals: 10. */
+uint8_t balthwyr_check_for_greedy_all(const uint32_t *tree, size_t tree_len, const uint8_t *bytes, size_t bytes_len,
+                                      size_t *found);
 
 #ifdef __cplusplus
 }
