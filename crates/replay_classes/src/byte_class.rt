@@ -92,7 +92,7 @@ fn keep(places: &mut [usize], i: usize, place: usize) {
 }
 
 // All classes, the number of which stands at a place; `places` takes the place of each.
-pub fn all(list: &[u8], at: usize, places: &mut [usize]) -> Tally {
+pub(crate) fn all(list: &[u8], at: usize, places: &mut [usize]) -> Tally {
     let n = vectors::word(list, at);
     let mut t = vectors::tally::begun(vectors::after(list, at, 4));
     for i in 0..n {

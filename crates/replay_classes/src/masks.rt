@@ -142,7 +142,7 @@ fn sequence_alike(list: &[u8], at: usize, places: &[usize], by_loan: bool) -> Ca
 }
 
 // All sequences, the number of which stands at a place. Every second one lends its store.
-pub fn all_sequences(list: &[u8], at: usize, places: &[usize]) -> Tally {
+pub(crate) fn all_sequences(list: &[u8], at: usize, places: &[usize]) -> Tally {
     let n = vectors::half(list, at);
     let mut t = vectors::tally::begun(vectors::after(list, at, 2));
     for i in 0..n {
@@ -200,7 +200,7 @@ fn given_store_alike(list: &[u8], at: usize, by_loan: bool) -> Case {
 }
 
 // All stores, the number of which stands at a place. Every second one is lent.
-pub fn all_stores(list: &[u8], at: usize) -> Tally {
+pub(crate) fn all_stores(list: &[u8], at: usize) -> Tally {
     let n = vectors::half(list, at);
     let mut t = vectors::tally::begun(vectors::after(list, at, 2));
     for i in 0..n {

@@ -25,7 +25,7 @@ fn two_alike(i: usize, code: usize) -> bool
     priority(&[x, y], 2) == alone && priority(&[0xC3, 0xA9, x, y], 4) == 4 + 2 * code
 }
 
-pub fn twos(list: &[u8], at: usize) -> Tally {
+pub(crate) fn twos(list: &[u8], at: usize) -> Tally {
     let end = vectors::after(list, at, 16384);
     let mut t = vectors::tally::begun(end);
     for i in 0..65536 {
@@ -51,7 +51,7 @@ fn edge(i: usize) -> u8 {
     }
 }
 
-pub fn threes(list: &[u8], at: usize) -> Tally {
+pub(crate) fn threes(list: &[u8], at: usize) -> Tally {
     let end = vectors::after(list, at, 2048);
     let mut t = vectors::tally::begun(end);
     for i in 0..16384 {
@@ -69,7 +69,7 @@ pub fn threes(list: &[u8], at: usize) -> Tally {
     t
 }
 
-pub fn fours(list: &[u8], at: usize) -> Tally {
+pub(crate) fn fours(list: &[u8], at: usize) -> Tally {
     let end = vectors::after(list, at, 4096);
     let mut t = vectors::tally::begun(end);
     for i in 0..32768 {
@@ -103,7 +103,7 @@ fn string_alike(list: &[u8], at: usize) -> Case {
     }
 }
 
-pub fn strings(list: &[u8], at: usize) -> Tally {
+pub(crate) fn strings(list: &[u8], at: usize) -> Tally {
     let n = vectors::word(list, at);
     let mut t = vectors::tally::begun(vectors::after(list, at, 4));
     for i in 0..n {

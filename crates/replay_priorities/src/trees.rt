@@ -84,7 +84,7 @@ fn tree_alike(list: &[u8], at: usize, tree: &mut [u32]) -> Case {
     }
 }
 
-pub fn all(list: &[u8], at: usize, tree: &mut [u32]) -> Tally {
+pub(crate) fn all(list: &[u8], at: usize, tree: &mut [u32]) -> Tally {
     let n = vectors::word(list, at);
     let mut t = vectors::tally::begun(vectors::after(list, at, 4));
     for i in 0..n {

@@ -1,5 +1,7 @@
 // What a replay counts and prints: the cases of one kind that were alike and that differ, and whether the list was read whole.
 ghost use mathlib.Core.Path.{_≡_};
+ghost use lib.Dec.{eqb};
+ghost use lib.ListN.{length};
 ghost use Rattle.vectors.specs.Counting.{more, begun, noted};
 
 // Where a list is read on after a case, and whether all of the case was alike.
@@ -69,8 +71,11 @@ fn number(n: usize) {
     io::print_decimal(1, n as u64);
 }
 
-// Prints a kind's line, as `classes 1423 alike, 0 differ`; then the number of the first that differs, if there is one.
-pub fn tell(kind: &[u8], t: Tally) {
+// Prints a kind's line, as `classes 1423 alike, 0 differ`; then the number of the first that differs, if there is one. Answers
+// whether none differs.
+pub fn tell(kind: &[u8], t: Tally) -> bool
+    ensures { λ r. ⌜ r ≡ eqb (t .differ) 0 ⌝ }
+{
     io::write_all(1, kind);
     io::write_all(1, b" ");
     number(t.alike);
@@ -82,10 +87,13 @@ pub fn tell(kind: &[u8], t: Tally) {
         number(t.first);
     }
     io::write_all(1, b"\n");
+    t.differ == 0
 }
 
-// Prints whether the list was read whole, given the place after the last case.
-pub fn tell_end(list: &[u8], at: usize) {
+// Prints whether the list was read whole, given the place after the last case, and answers it.
+pub fn tell_end(list: &[u8], at: usize) -> bool
+    ensures { λ r. ⌜ r ≡ eqb at (length (now (list .entry))) ⌝ }
+{
     if at < list.len() {
         number(list.len() - at);
         io::write_all(1, b" bytes are left\n");
@@ -94,4 +102,5 @@ pub fn tell_end(list: &[u8], at: usize) {
     } else {
         io::write_all(1, b"list ends early\n");
     }
+    at == list.len()
 }
