@@ -1,4 +1,4 @@
-// Refusals 1 to 7: the conditions on a table's words, judged in the paper's order, so that no word is read before the length is known.
+// Refusals 1 to 7: the conditions on a table's words, judged in document 01's order, so that no word is read that is not there.
 ghost use mathlib.Core.Path.{_≡_};
 ghost use lib.ListN.{length};
 ghost use Rattle.rules.specs.Build.{emptyLeaves};
