@@ -15,7 +15,8 @@ use Rattle.classes.specs.Classes.{Class, has}
 use Rattle.classes.specs.declared.masks.MaskStore.{MaskStore}
 use Rattle.classes.specs.declared.masks.AddAnswer.the-variants.{Number, Refused}
 use Rattle.classes.specs.declared.masks.Added.{Added}
-use Rattle.classes.specs.Masks.{add, addTold, bit, classAt, held, heldWith, numberOf, among, written, writtenAll, grown, storeOf, allowed, takes, refusedWith}
+use Rattle.bits.specs.Bits.{bit}
+use Rattle.classes.specs.Masks.{add, addTold, classAt, held, heldWith, numberOf, among, written, writtenAll, grown, storeOf, allowed, takes, refusedWith}
 use Rattle.classes.proofs.Numbers.{number-at, number-most, number-back, number-here, same-self}
 use Rattle.classes.proofs.Search.{allowed-count}
 use Rattle.classes.proofs.MaskLaws.{length-held, held-at, length-written, class-own, class-other, bits-after, table-at}

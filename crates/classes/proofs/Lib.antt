@@ -5,7 +5,6 @@ pub mod Answers
 pub mod FlagPass
 pub mod Joining
 pub mod Listed
-pub mod Bits
 pub mod Numbers
 pub mod Search
 pub mod MaskLaws

@@ -14,8 +14,9 @@ use Rattle.lists.proofs.Bools.{Is, yes-is, no-is, is}
 use Rattle.lists.proofs.Grid.{entry, Shape, grid-ext}
 use Rattle.classes.specs.Classes.{has}
 use Rattle.classes.specs.declared.masks.MaskStore.{MaskStore}
-use Rattle.classes.specs.Masks.{bit, tableAt, classAt, usedIn, luts, allowed, render}
-use Rattle.classes.proofs.Bits.{bit-mod-below, bit-mod-above}
+use Rattle.bits.specs.Bits.{bit}
+use Rattle.classes.specs.Masks.{tableAt, classAt, usedIn, luts, allowed, render}
+use Rattle.bits.proofs.Bits.{bit-mod-below, bit-mod-above}
 use Rattle.classes.proofs.MaskLaws.{table-at, table-bit}
 
 module _ (s : MaskStore) where

@@ -13,8 +13,9 @@ use Rattle.lists.proofs.Elements.{length-tab, getD-tab}
 use Rattle.lists.proofs.Bools.{Is, yes-is, no-is, is, Order, less, more, order, equal}
 use Rattle.classes.specs.Classes.{Class, has}
 use Rattle.classes.specs.declared.masks.MaskStore.{MaskStore}
-use Rattle.classes.specs.Masks.{bit, isSet, tableAt, maskHas, classAt, held, heldWith, numberOf, met, withBit, withBits, written}
-use Rattle.classes.proofs.Bits.{bit-zero, bit-flag, bit-own, bit-other, set-own, set-other}
+use Rattle.bits.specs.Bits.{bit, isSet, withBit}
+use Rattle.classes.specs.Masks.{tableAt, maskHas, classAt, held, heldWith, numberOf, met, withBits, written}
+use Rattle.bits.proofs.Bits.{bit-zero, bit-flag, bit-own, bit-other, set-own, set-other}
 use Rattle.classes.proofs.Numbers.{met-front, number-at}
 
 -- ---- byte membership equals the set bit, for every mask and every byte

@@ -14,7 +14,8 @@ use Rattle.lists.proofs.Elements.{length-tab}
 use Rattle.lists.proofs.Bools.{and-both, Is, yes-is, no-is, is}
 use Rattle.classes.specs.Classes.{Class, has}
 use Rattle.classes.specs.declared.masks.MaskStore.{MaskStore}
-use Rattle.classes.specs.Masks.{isSet, tableAt, maskHas, classAt, held, sameClass, numberOf, among, noneTwice, allowed}
+use Rattle.bits.specs.Bits.{isSet}
+use Rattle.classes.specs.Masks.{tableAt, maskHas, classAt, held, sameClass, numberOf, among, noneTwice, allowed}
 use Rattle.classes.proofs.Numbers.{beq-sound, same-eq, same-self, number-here, number-later}
 use Rattle.classes.proofs.MaskLaws.{mask-class, table-length}
 

@@ -8,7 +8,8 @@ use native.Mathlib.Omega.{arith}
 use lib.ListN.{length, getD, take, drop, set, take-append-drop, List·getD-append}
 use lib.Seq.{set-append-left, getD-append-add, drop-drop}
 use Rattle.classes.specs.Classes.{Class, has}
-use Rattle.classes.specs.Masks.{tableAt, withBit, withBits, written}
+use Rattle.bits.specs.Bits.{withBit}
+use Rattle.classes.specs.Masks.{tableAt, withBits, written}
 use Rattle.classes.proofs.MaskLaws.{table-at, table-length, front-length, middle-length}
 
 set-append-add : (xs ys : List ℕ) (n a : ℕ) → set (xs ++ ys) (length xs + n) a ≡ xs ++ set ys n a

@@ -2,10 +2,11 @@
 use mathlib.Core.Bool.{Bool, true, false, cond, _&&_, not, Bool·beq}
 use mathlib.Core.List.{List, [], _∷_, _++_, map}
 use Prim.Native.Nat.{ℕ, suc, _+_, _*_, _-_, _/_, _%_, _^_, min}
-use lib.Dec.{eqb, leb, ltb}
+use lib.Dec.{leb, ltb}
 use lib.ListN.{length, getD, take, drop, replicate}
 use Rattle.lists.specs.Lists.{tab, eqList}
 use Rattle.lists.specs.Told.{Told, telling, refusing}
+use Rattle.bits.specs.Bits.{isSet, withBit}
 use Rattle.classes.specs.Classes.{Class}
 use Rattle.classes.specs.declared.masks.MaskStore.{MaskStore}
 use Rattle.classes.specs.declared.masks.AddAnswer.{AddAnswer}
@@ -13,14 +14,6 @@ use Rattle.classes.specs.declared.masks.AddAnswer.the-variants.{Number, 
 use Rattle.classes.specs.declared.masks.Added.{Added}
 
 -- ---- "mask i is bit i mod 8 of table i / 8"
-
--- bit k of a number: 0 or 1
-abbrev pub bit : ℕ → ℕ → ℕ
-bit w k = w / 2 ^ k % 2
-
--- whether it is set
-abbrev pub isSet : ℕ → ℕ → Bool
-isSet k w = eqb (bit w k) 1
 
 -- table t
 unfoldable pub tableAt : List ℕ → ℕ → List ℕ
@@ -65,10 +58,6 @@ met l [] = l
 met l (c ∷ cs) = met (cond (among l c) l (l ++ c ∷ [])) cs
 
 -- ---- adding classes to a store (`add_test_to_lut`)
-
--- a number with bit k made 1 or 0, and no other bit changed
-abbrev pub withBit : ℕ → ℕ → Bool → ℕ
-withBit k w flag = w / 2 ^ suc k * 2 ^ suc k + cond flag (2 ^ k) 0 + w % 2 ^ k
 
 abbrev pub withBits : ℕ → List ℕ → List Bool → List ℕ
 withBits k [] c = []

@@ -7,7 +7,7 @@ ghost use mathlib.Core.Bool.{true};
 ghost use Prim.Native.Nat.{_+_, _-_, _%_, _^_, _<_, _≤_};
 ghost use lib.ListN.{length};
 ghost use Rattle.lists.specs.Lists.{tab};
-ghost use Rattle.classes.specs.Masks.{isSet, maskHas, classAt, numberOf, withBit, written, storeOf, allowed, refusedWith, add, usedIn, render};
+ghost use Rattle.classes.specs.Masks.{maskHas, classAt, numberOf, written, storeOf, allowed, refusedWith, add, usedIn, render};
 
 // The tables stand one after another: entry 256 t + b is that of byte b in table t. Bits of masks from `count` on mean nothing.
 pub struct MaskStore {
@@ -27,28 +27,6 @@ pub struct Added {
     pub store: MaskStore,
 }
 
-// ---- one bit
-
-// Whether bit k of the word is set.
-pub fn test_bit(word: u8, k: usize) -> bool
-    requires { ⌜ k < 8 ⌝ }
-    ensures { λ r. ⌜ r ≡ isSet k word ⌝ }
-{
-    (word >> k) & 1 == 1
-}
-
-// The word with bit k made 1 or 0, and no other bit changed.
-pub fn with_bit(word: u8, k: usize, flag: bool) -> u8
-    requires { ⌜ k < 8 ⌝ }
-    ensures { λ r. ⌜ r ≡ withBit k word flag ⌝ }
-{
-    if flag {
-        word | (1u8 << k)
-    } else {
-        word & !(1u8 << k)
-    }
-}
-
 // ---- one mask
 
 // Whether mask i has the byte.
@@ -56,7 +34,7 @@ pub fn mask_has(tables: &[u8; 2048], i: usize, byte: u8) -> bool
     requires { ⌜ i < 64 ⌝ }
     ensures { λ r. ⌜ r ≡ maskHas (now (tables .entry)) i byte ⌝ }
 {
-    test_bit(tables[256 * (i / 8) + byte as usize], i % 8)
+    bits::test_bit(tables[256 * (i / 8) + byte as usize], i % 8)
 }
 
 // Mask i as a class.
@@ -80,7 +58,7 @@ pub fn write_mask(tables: &mut [u8; 2048], i: usize, class: &[bool; 256])
     let k = i % 8;
     for b in 0..256 {
         let j = base + b;
-        tables[j] = with_bit(tables[j], k, class[b]);
+        tables[j] = bits::with_bit(tables[j], k, class[b]);
     }
 }
 

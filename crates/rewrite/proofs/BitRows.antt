@@ -12,8 +12,8 @@ use lib.ListN.{length, getD, set, replicate, length-set, length-replicate}
 use lib.Seq.{getD-set-same, getD-set-other}
 use Rattle.lists.proofs.Bools.{Is, is, yes-is, no-is, bool-ext, some-inj}
 use Rattle.lists.proofs.Padding.{replicate-at}
-use Rattle.classes.specs.Masks.{isSet, withBit}
-use Rattle.classes.proofs.Bits.{bit-zero, set-own, set-other}
+use Rattle.bits.specs.Bits.{isSet, withBit}
+use Rattle.bits.proofs.Bits.{bit-zero, set-own, set-other}
 use Rattle.rules.specs.Graph.{Graph, stateOf, to, leads}
 use Rattle.rules.proofs.Views.{edge-leads, edge-within}
 use Rattle.rewrite.specs.Matrix.{bitAt}

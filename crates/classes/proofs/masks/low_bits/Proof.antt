@@ -5,7 +5,7 @@ use native.Mathlib.Nat.{mod-eq-of-lt}
 use native.Mathlib.Omega.{arith}
 use lib.Bits.{and-mask}
 use lib.Pow.{pow-pos}
-use Rattle.classes.proofs.Bits.{one-shl}
+use Rattle.bits.proofs.Bits.{one-shl}
 use Rattle.classes.proofs.masks.low_bits.Statement.{statement}
 use Rattle.classes.proofs.masks.low_bits.Tie as tie
 

@@ -9,7 +9,8 @@ use native.Mathlib.Numerals.{add-one}
 use native.Mathlib.Omega.{arith}
 use lib.ListN.{length, getD, take, set}
 use lib.Seq.{take-all}
-use Rattle.classes.specs.Masks.{withBit, written}
+use Rattle.bits.specs.Bits.{withBit}
+use Rattle.classes.specs.Masks.{written}
 use Rattle.classes.proofs.Writing.{written-none, written-ahead, written-step}
 use Rattle.classes.proofs.masks.write_mask.Statement.{statement}
 use Rattle.classes.proofs.masks.write_mask.Tie as tie

@@ -1,11 +1,11 @@
--- `masks::test_bit` meets its contract: a shift by k is a division by 2 ^ k, and a mask by 1 a remainder by 2. Assumes nothing.
+-- `test_bit` meets its contract: a shift by k is a division by 2 ^ k, and a mask by 1 a remainder by 2. Assumes nothing.
 use borrow.Author.Needs.{needs}
 use mathlib.Core.Path.{ap}
 use Prim.Native.Nat.{ℕ, _/_, _^_}
 use lib.Dec.{eqb}
 use lib.Bits.{and-mask}
-use Rattle.classes.proofs.masks.test_bit.Statement.{statement}
-use Rattle.classes.proofs.masks.test_bit.Tie as tie
+use Rattle.bits.proofs.test_bit.Statement.{statement}
+use Rattle.bits.proofs.test_bit.Tie as tie
 
 cast-result : tie.Need-cast-result
 cast-result c = search needs

@@ -13,7 +13,7 @@ use lib.ListN.{getD}
 use Rattle.lists.specs.Lists.{tab, allL}
 use Rattle.lists.proofs.Elements.{length-tab, getD-tab, all-at}
 use Rattle.lists.proofs.Bools.{Is, yes-is, no-is, is, Order, less, more, order, equal}
-use Rattle.classes.specs.Masks.{bit, isSet, withBit}
+use Rattle.bits.specs.Bits.{bit, isSet, withBit}
 
 pub bit-zero : (k : ℕ) → bit 0 k ≡ 0
 bit-zero k = ap (λ (m : ℕ). m % 2) (div-eq-of-lt (pow-pos k))

@@ -1,14 +1,14 @@
--- Of a byte, `|` with a shifted 1 sets the bit, and `&` with its complement clears it. Assumes nothing.
+-- `with_bit` meets its contract: what the two masks make of a byte is computed once for all bytes and bits (`or-is`, `and-is`). Assumes nothing.
 use borrow.Author.Needs.{needs}
 use mathlib.Core.Path.{_≡_, ap, _∙_}
 use mathlib.Core.Bool.{true, false}
-use lib.Bits.{bitOr, bitAnd}
 use Prim.Native.Nat.{ℕ, _-_, _<_}
 use native.Mathlib.Omega.{arith}
-use Rattle.classes.specs.Masks.{withBit}
-use Rattle.classes.proofs.Bits.{one-shl, or-is, and-is}
-use Rattle.rewrite.proofs.bits.with_bit.Statement.{statement}
-use Rattle.rewrite.proofs.bits.with_bit.Tie as tie
+use lib.Bits.{bitOr, bitAnd}
+use Rattle.bits.specs.Bits.{withBit}
+use Rattle.bits.proofs.Bits.{one-shl, or-is, and-is}
+use Rattle.bits.proofs.with_bit.Statement.{statement}
+use Rattle.bits.proofs.with_bit.Tie as tie
 
 cast-result : tie.Need-cast-result
 cast-result c = search needs

@@ -1,7 +1,7 @@
-// Bits of a byte, by shift and mask.
+// The bits of a byte, by shift and mask. They are defined in specs/Bits.antt; what is true of them over all numbers is in proofs/Bits.antt.
 ghost use mathlib.Core.Path.{_≡_};
 ghost use Prim.Native.Nat.{_<_};
-ghost use Rattle.classes.specs.Masks.{isSet, withBit};
+ghost use Rattle.bits.specs.Bits.{isSet, withBit};
 
 // Whether bit k of the word is set.
 pub fn test_bit(word: u8, k: usize) -> bool
