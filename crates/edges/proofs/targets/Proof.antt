@@ -6,10 +6,10 @@ use native.Mathlib.Omega.{arith}
 use lib.ListN.{getD, getD-replicate}
 use Rattle.rules.specs.Graph.{stateOf, graphFrom}
 use Rattle.rules.proofs.Taken.{taken-long, taken-few}
-use Rattle.display.specs.Display.{bytesOf}
-use Rattle.display.proofs.Rows.{Marking, mark-more, mark-none, marked-all}
-use Rattle.display.proofs.edges.targets.Statement.{statement}
-use Rattle.display.proofs.edges.targets.Tie as tie
+use Rattle.edges.specs.Edges.{bytesOf}
+use Rattle.edges.proofs.Rows.{Marking, mark-more, mark-none, marked-all}
+use Rattle.edges.proofs.targets.Statement.{statement}
+use Rattle.edges.proofs.targets.Tie as tie
 
 abbrev Inv-loop : tie.InvT-loop
 Inv-loop graph s found₀ b₀ found b = Marking (getD graph 0 0) (bytesOf (stateOf (graphFrom graph) s)) found b
@@ -44,7 +44,7 @@ loop-again : tie.Need-loop-again Inv-loop μ-loop
 loop-again c =
     let at = c .before .before .before in
     let s = at .before .before in
-    mark-more (s .args .graph .now) (s .pre .0) (s .args .s) (s .pre .1) (omega arith) (at .loop .inv) _ (c .before .word .ensures .0) (c .if1 .taken)
+    mark-more (s .args .graph .now) (s .pre .0) (s .args .s) (s .pre .1) (omega arith) (at .loop .inv) _ (c .before .word .ensures .0) (omega arith)
 
 loop-less-2 : tie.Need-loop-less-2 Inv-loop μ-loop
 loop-less-2 c = omega arith

@@ -4,11 +4,11 @@ use Prim.Native.Nat.{_-_}
 use native.Mathlib.Nat.{not-suc-le-zero}
 use native.Mathlib.Omega.{arith}
 use Rattle.rules.specs.Graph.{stateOf, graphFrom}
-use Rattle.display.specs.Display.{classTo}
+use Rattle.edges.specs.Edges.{classTo}
 use Rattle.rules.proofs.Taken.{taken-long, taken-few}
-use Rattle.display.proofs.Rows.{Filling, fill-more, filled}
-use Rattle.display.proofs.edges.class_to.Statement.{statement}
-use Rattle.display.proofs.edges.class_to.Tie as tie
+use Rattle.edges.proofs.Rows.{Filling, fill-more, filled}
+use Rattle.edges.proofs.class_to.Statement.{statement}
+use Rattle.edges.proofs.class_to.Tie as tie
 
 abbrev Inv-loop : tie.InvT-loop
 Inv-loop graph s u class₀ b₀ class b = Filling (classTo (stateOf (graphFrom graph) s) u) class b

@@ -1,7 +1,7 @@
 -- A state's byte edges, read from the words of its graph: the class of an edge, and the targets that edges lead to. Assumes nothing.
 use mathlib.Core.Path.{_≡_, sym, ap, _∙_}
 use mathlib.Core.Bool.{Bool, true, false, _||_}
-use mathlib.Core.List.{List, [], _∷_, _++_}
+use mathlib.Core.List.{List}
 use mathlib.Core.Option.{Option, none, some}
 use Prim.Native.Nat.{ℕ, _+_, _*_, _≤_, _<_}
 use native.Mathlib.Numerals.{add-one}
@@ -9,28 +9,17 @@ use native.Mathlib.Omega.{arith}
 use borrow.Author.Count.{below-more}
 use borrow.Author.Tests.{eqb-true, eqb-false, ne-eqb}
 use lib.Dec.{eqb}
-use lib.ListN.{length, getD, set, take, drop, length-map, length-set}
+use lib.ListN.{length, getD, set, take, length-map, length-set}
 use lib.Seq.{length-take-le, getD-take, getD-set-same, getD-set-other, take-suc, take-all, ext-getD}
-use Rattle.lists.specs.Lists.{anyL, eqOption, pieces}
-use Rattle.lists.proofs.Bools.{Is, is, yes-is, no-is, or-right, or-false, or-assoc}
+use Rattle.lists.specs.Lists.{anyL, eqOption}
+use Rattle.lists.proofs.Bools.{Is, is, yes-is, no-is, or-right, or-false}
+use Rattle.lists.proofs.Any.{any-snoc}
 use Rattle.lists.proofs.Elements.{map-at}
-use Rattle.lists.proofs.Pieces.{pieces-length}
-use Rattle.rules.specs.Graph.{State, stateOf, to, blank, orNone, stateFrom, graphFrom, graphFits}
-use Rattle.rules.proofs.Flat.{piece, piece-length, from-to}
+use Rattle.rules.specs.Graph.{State, stateOf, to, orNone, graphFrom, graphFits}
+use Rattle.rules.proofs.Flat.{from-width, from-to}
+use Rattle.rules.proofs.Nones.{or-meets}
 use Rattle.rules.proofs.Taken.{taken-long, taken-few}
-use Rattle.display.specs.Display.{bytesOf, classTo, leadsTo}
-
-any-snoc : {A : Type 0} (p : A → Bool) (l : List A) (x : A) → anyL p (l ++ (x ∷ [])) ≡ (anyL p l || p x)
-any-snoc p [] x = or-false (p x)
-any-snoc p (y ∷ l) x = ap (λ (b : Bool). p y || b) (any-snoc p l x) ∙ sym (or-assoc (p y) (anyL p l) (p x))
-
--- a target below the word for none is met exactly by its own word
-met : (u x : ℕ) → u < 65535 → eqOption (some u) (orNone 65535 x) ≡ eqb u x
-met u x h = go (is (eqb x 65535))
-  where
-    go : Is (eqb x 65535) → eqOption (some u) (orNone 65535 x) ≡ eqb u x
-    go (yes-is q) = let e = eqb-true x 65535 q in rw q (sym (ne-eqb u x (λ z. omega arith)))
-    go (no-is q) = rw q
+use Rattle.edges.specs.Edges.{bytesOf, classTo, leadsTo}
 
 -- ---- what the loops keep
 
@@ -53,16 +42,8 @@ module _ (w : List ℕ) (taken : graphFits w ≡ true) (s : ℕ) (h : s < getD w
   abbrev pub word : ℕ → ℕ
   word b = getD w (2 + 258 * s + b) 0
 
-  steps-length : length (st .steps) ≡ 257
-  unfolding stateOf graphFrom stateFrom
-  steps-length =
-      let p = piece w (taken-long w taken) s h in
-      ap (λ (x : State). length (x .steps)) (map-at stateFrom (pieces 258 (getD w 0 0) (drop 2 w)) s [] blank (rw (pieces-length 258 (getD w 0 0) (drop 2 w)) h))
-      ∙ length-map (take 257 p) (orNone 65535)
-      ∙ length-take-le 257 p (let e = piece-length w (taken-long w taken) s h in omega arith)
-
   row-length : length (bytesOf st) ≡ 256
-  row-length = length-take-le 256 (st .steps) (let e = steps-length in omega arith)
+  row-length = length-take-le 256 (st .steps) (let e = from-width w (taken-long w taken) s h in omega arith)
 
   row-at : (b : ℕ) → b < 256 → getD (bytesOf st) b none ≡ orNone 65535 (word b)
   unfolding to
@@ -71,8 +52,8 @@ module _ (w : List ℕ) (taken : graphFits w ≡ true) (s : ℕ) (h : s < getD w
   -- ---- the class of an edge
 
   module _ (u : ℕ) (k : u < getD w 0 0) where
-    few : u < 65535
-    few = let e = taken-few w taken in omega arith
+    met : (b : ℕ) → eqOption (some u) (orNone 65535 (word b)) ≡ eqb u (word b)
+    met b = or-meets 65535 (word b) u (λ z. let e = taken-few w taken in omega arith)
 
     pub class-length : length (classTo st u) ≡ 256
     unfolding classTo
@@ -83,7 +64,7 @@ module _ (w : List ℕ) (taken : graphFits w ≡ true) (s : ℕ) (h : s < getD w
     class-at b l =
         map-at (eqOption (some u)) (bytesOf st) b none false (let e = row-length in omega arith)
         ∙ ap (eqOption (some u)) (row-at b l)
-        ∙ met u (word b) few
+        ∙ met b
 
     -- an edge's byte is among those up to it
     pub leads-more : (b : ℕ) → b < 256 → anyL (eqOption (some u)) (take (b + 1) (bytesOf st)) ≡ (anyL (eqOption (some u)) (take b (bytesOf st)) || eqb u (word b))
@@ -92,7 +73,7 @@ module _ (w : List ℕ) (taken : graphFits w ≡ true) (s : ℕ) (h : s < getD w
         ∙ ap (anyL (eqOption (some u))) (take-suc (bytesOf st) b none (let e = row-length in omega arith))
         ∙ any-snoc (eqOption (some u)) (take b (bytesOf st)) (getD (bytesOf st) b none)
         ∙ ap (λ (o : Option ℕ). anyL (eqOption (some u)) (take b (bytesOf st)) || eqOption (some u) o) (row-at b l)
-        ∙ ap (λ (x : Bool). anyL (eqOption (some u)) (take b (bytesOf st)) || x) (met u (word b) few)
+        ∙ ap (λ (x : Bool). anyL (eqOption (some u)) (take b (bytesOf st)) || x) (met b)
 
     pub leads-all : anyL (eqOption (some u)) (take 256 (bytesOf st)) ≡ leadsTo st u
     unfolding leadsTo

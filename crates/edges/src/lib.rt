@@ -1,10 +1,13 @@
-// The byte edges of a state: the targets they lead to, and the class of bytes that lead to one.
+// The byte edges of a state, grouped by target (document 01, "Edges, costs, masks"), from the words of a graph that refusal 12 takes: the states
+// that they lead to, and the class of the bytes that lead to one. The end step is none of them.
+//
+// They are defined in specs/Edges.antt; what is true of them is in proofs/ByTarget.antt.
 ghost use mathlib.Core.Path.{_≡_};
 ghost use mathlib.Core.Bool.{true, false};
 ghost use Prim.Native.Nat.{ℕ, _<_};
 ghost use lib.ListN.{getD};
 ghost use Rattle.rules.specs.Graph.{stateOf, graphFrom, graphFits};
-ghost use Rattle.display.specs.Display.{classTo, leadsTo};
+ghost use Rattle.edges.specs.Edges.{classTo, leadsTo};
 
 // The class of the edge from state s to state u.
 pub fn class_to(graph: &[u16], s: usize, u: usize) -> [bool; 256]
