@@ -15,8 +15,9 @@ use Rattle.rules.specs.Read.{readTable, readGraph, tableWalker, graphWalker}
 use Rattle.graph.specs.Answers.{readTold, tableRead, graphRead}
 use Rattle.plans.specs.declared.scan.Scan.{Scan}
 use Rattle.plans.specs.Scan.{fresh, gapLength, next, scanTold}
+use Rattle.edges.specs.Edges.{classTo, leadsTo, targets}
 use Rattle.display.specs.Text.{bytes, decimal}
-use Rattle.display.specs.Display.{letterOf, escaped, rangeText, classText, classTo, leadsTo, targets, firstLine, edgeLine, stateText, displayed, lineOf, conflictLine}
+use Rattle.display.specs.Display.{letterOf, escaped, rangeText, classText, firstLine, edgeLine, stateText, displayed, lineOf, conflictLine}
 
 abbrev pub numbers : Told → List ℕ
 numbers t = t .refusal ∷ t .values

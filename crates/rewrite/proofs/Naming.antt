@@ -17,8 +17,8 @@ use Rattle.lists.proofs.Padding.{replicate-at}
 use Rattle.lists.proofs.Worklist.{count-take-in, count-take-out}
 use Rattle.rules.specs.Graph.{State, orNone}
 use Rattle.rules.specs.Build.{renamed, relabel}
+use Rattle.rules.proofs.Nones.{or-none, or-number}
 use Rattle.rewrite.specs.Names.{namesOf}
-use Rattle.rewrite.proofs.Read.{or-none, or-number}
 
 -- ---- numbering: the numbers below s have been passed, k of them are members
 

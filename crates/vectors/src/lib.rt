@@ -65,7 +65,7 @@ pub fn after(list: &[u8], at: usize, n: usize) -> usize
 pub fn bit(list: &[u8], at: usize, i: usize) -> bool
     ensures { λ r. ⌜ r ≡ bitAt (now (list .entry)) at i ⌝ }
 {
-    classes::masks::test_bit(byte(list, after(list, at, i / 8)), i % 8)
+    bits::test_bit(byte(list, after(list, at, i / 8)), i % 8)
 }
 
 // The 256 flags of the class at a place: 32 bytes.

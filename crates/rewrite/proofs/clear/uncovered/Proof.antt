@@ -12,7 +12,8 @@ use Rattle.lists.specs.Lists.{eqOption}
 use Rattle.lists.proofs.Bools.{none-some, some-inj}
 use Rattle.rules.specs.Graph.{Graph, graphFrom, to, acceptOf, earlyOf}
 use Rattle.rules.proofs.Taken.{taken-few, taken-long}
-use Rattle.rewrite.proofs.Read.{from-length, from-edge, edge-none, edge-some, leaves-agree, leaves-differ}
+use Rattle.rules.proofs.Flat.{from-length}
+use Rattle.rewrite.proofs.Read.{from-edge, edge-none, edge-some, leaves-agree, leaves-differ}
 use Rattle.rewrite.proofs.Parents.{Passed, passed-none, passed-skip, passed-mark, passed-row, passed-all}
 use Rattle.rewrite.proofs.clear.uncovered.Statement.{statement}
 use Rattle.rewrite.proofs.clear.uncovered.Tie as tie

@@ -18,8 +18,8 @@ use Rattle.lists.proofs.Worklist.{AllIn, none-in, pop, push, finish, in-keeps, 
 use Rattle.rules.specs.Graph.{Graph, stateOf, leads, graphFrom}
 use Rattle.rules.specs.Build.{kept}
 use Rattle.rules.proofs.Taken.{taken-few, taken-long}
+use Rattle.rules.proofs.Flat.{from-length}
 use Rattle.rewrite.specs.Matrix.{bitAt}
-use Rattle.rewrite.proofs.Read.{from-length}
 use Rattle.rewrite.proofs.Backward.{seed, Good, found, Search, search-none, search-done, found-none, found-there, found-byte}
 use Rattle.rewrite.proofs.keep.kept.Statement.{statement}
 use Rattle.rewrite.proofs.keep.kept.Tie as tie

@@ -15,8 +15,9 @@ use Rattle.rules.specs.Graph.{State, Graph, blank, stateOf, graphFrom, graphBuf
 use Rattle.rules.specs.Build.{relabel}
 use Rattle.rules.proofs.Fits.{Fits}
 use Rattle.rules.proofs.Taken.{taken-few, taken-long, taken-root, taken-target}
+use Rattle.rules.proofs.Flat.{from-length}
 use Rattle.rewrite.specs.Names.{namesOf, Moved, Zeroed}
-use Rattle.rewrite.proofs.Read.{from-length, taken-fits}
+use Rattle.rewrite.proofs.Read.{taken-fits}
 use Rattle.rewrite.proofs.Steps.{relabel-fits}
 use Rattle.rewrite.proofs.Buffers.{buffer-taken}
 use Rattle.rewrite.proofs.Packing.{Packed, packed-none, packed-skip, packed-row, packed-all}
