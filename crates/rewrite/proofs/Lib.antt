@@ -7,6 +7,7 @@ pub mod Edges
 pub mod Parents
 pub mod BitRows
 pub mod Backward
+pub mod Looking
 pub mod Rows
 pub mod Packing
 pub mod Naming
