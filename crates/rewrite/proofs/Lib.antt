@@ -1,6 +1,5 @@
 pub mod Read
 pub mod Buffers
-pub mod Steps
 pub mod Children
 pub mod Marking
 pub mod Edges
