@@ -15,7 +15,7 @@ use Rattle.lists.proofs.Bools.{Is, is, yes-is, no-is, none-some, lt-or-le, and-
 use Rattle.lists.proofs.Elements.{all-intro, option-sound}
 use Rattle.lists.proofs.Pieces.{pieces-length, piece-word}
 use Rattle.rules.specs.Graph.{Graph, stateOf, to, acceptOf, earlyOf, orNone, graphFrom, graphFits}
-use Rattle.rules.proofs.Fits.{Fits}
+use Rattle.rules.proofs.Fits.{Fits, Root}
 use Rattle.rules.proofs.Flat.{from-to, from-accept, from-early, piece-length, from-length, from-width}
 use Rattle.rules.proofs.Taken.{taken-long, taken-few, taken-root, taken-target}
 use Rattle.rules.proofs.Views.{edge-within, out-accept, out-early}
@@ -25,9 +25,6 @@ use Rattle.rules.proofs.Nones.{or-word, or-some, word-inj}
 
 abbrev pub Target : ℕ → ℕ → Type 0
 Target n u = (u < n) ⊎ (u ≡ 65535)
-
-abbrev pub Root : ℕ → ℕ → Type 0
-Root n r = (r < n) ⊎ ((n ≡ 0) × (r ≡ 0))
 
 module _ (w : List ℕ) (long : 2 + 258 * getD w 0 0 ≤ length w) (few : getD w 0 0 ≤ 1024) where
   abbrev n : ℕ

@@ -59,7 +59,7 @@ loop2-holds c = (omega arith, c .before .loop .inv .1)
 target-requires : tie.Need-target-requires Inv-loop2 μ-loop2 Inv-loop μ-loop
 target-requires c κs =
     let p = c .before .before in
-    (St (p .before) .pre, (inside p .0, c .loop2-test .taken))
+    (St (p .before) .pre, (inside p .0, omega arith))
 
 add-c : tie.Need-add-c Inv-loop2 μ-loop2 Inv-loop μ-loop
 add-c c = omega arith
