@@ -1,7 +1,7 @@
 use Rattle.rules.specs.Graph.{orNone}
 use mathlib.Core.Path.{_≡_, refl, sym, ap, _∙_}
 use native.Mathlib.Omega.{arith}
-use Rattle.graph.proofs.Turn.{late-none, late-zero, late-back}
+use Rattle.graph.proofs.Turn.{recorded-some, late-none, late-zero, late-back}
 use borrow.Author.Needs.{needs}
 use Rattle.graph.proofs.read.accepted.Statement.{statement}
 use Rattle.graph.proofs.read.accepted.Tie as tie
@@ -21,7 +21,7 @@ sub-t5 c = search needs
 
 returns-3 : tie.Need-returns-3
 returns-3 c =
-    sym (late-back _ _ _ (c .before .if1 .left) (c .if2 .left))
+    let n = c .before .if1 .left in recorded-some _ _ n ∙ sym (late-back _ _ _ n (c .if2 .left))
 
 pub accepted-spec : {M : Type 1} → statement M
 accepted-spec = tie.close (tie.spec returns returns-2 sub-t5 returns-3)
