@@ -23,6 +23,27 @@ extern "C" {
 /* The refusal of a block that is shorter than what the call would write to it. */
 #define BALTHWYR_SHORT 255
 
+/* ---- Build
+ *
+ * The graph and the conflicts of a table. The graph goes to the front of `graph`: its number of states, its root, then 258 words a state, 256
+ * targets, the end target and the marks; the words after it are 0 up to 2 + 258 n, n being the table's number of states, and as found after that.
+ * The errors go to the front of `errors`, one behind the other, the words after them as found: kind (a `balthwyr_error`), leaf count, and that
+ * many leaves. So an error takes 2 + its leaf count words, and the next one begins behind it; all errors take *words.
+ *
+ * *states and *root are the graph's first two words, *count is the number of errors, *words how many words they take. A table with errors is
+ * built all the same: 0 does not say that there are none. A graph buffer of 264,194 words and an error buffer of 263,168 words are enough for
+ * every table. */
+
+enum balthwyr_error { BALTHWYR_NO_UNIVERSAL_START = 0, BALTHWYR_EMPTY_MATCH = 1, BALTHWYR_DISAMBIGUATION = 2 };
+
+/* The build of table words. Refusals: 1 to 9. */
+uint8_t balthwyr_build(const uint16_t *table, size_t table_len, uint16_t *graph, size_t graph_len, uint16_t *errors,
+                       size_t errors_len, size_t *states, size_t *root, size_t *count, size_t *words);
+
+/* The build of a table's image, its words as bytes, low byte first. Refusals: 13, then 1 to 9. */
+uint8_t balthwyr_build_image(const uint8_t *image, size_t image_len, uint16_t *graph, size_t graph_len, uint16_t *errors,
+                             size_t errors_len, size_t *states, size_t *root, size_t *count, size_t *words);
+
 /* ---- Readings
  *
  * *found is 1 if there is a reading, else 0; *leaf and *end are its leaf and where it ends, or 0. */

@@ -34,7 +34,7 @@ pub struct Built {
 }
 
 /// Kind, leaf count, leaves.
-fn error_words(error: &GraphError) -> Vec<u16> {
+pub fn error_words(error: &GraphError) -> Vec<u16> {
     match error {
         GraphError::NoUniversalStart => vec![0, 0],
         GraphError::EmptyMatch(leaf) => vec![1, 1, leaf.0 as u16],

@@ -11,6 +11,7 @@ use borrow.Author.Tests.{eq-eqb, ne-eqb}
 use lib.ListN.{length, getD, drop}
 use Rattle.rules.specs.Graph.{to, acceptOf, orNone, graphFrom, graphFits}
 use Rattle.rules.specs.Read.{Reading, late, mark, onward, walk, graphWalker, readGraph}
+use Rattle.graph.specs.Answers.{recorded}
 use Rattle.rules.proofs.Walks.{walk-at, walk-done}
 use Rattle.rules.proofs.Views.{out-quiet}
 use Rattle.rules.proofs.Taken.{taken-long, taken-target}
@@ -18,6 +19,12 @@ use Rattle.rules.proofs.Flat.{from-to, from-accept, from-early, from-length}
 use Rattle.rules.proofs.Nones.{or-none, or-number}
 
 -- ---- records
+
+pub recorded-none : (l k : ℕ) → l ≡ 255 → recorded l k ≡ none
+recorded-none l k e = rw (eq-eqb l 255 e)
+
+pub recorded-some : (l k : ℕ) → (l ≡ 255 → ⊥) → recorded l k ≡ some (record { leaf = l; end = k })
+recorded-some l k n = rw (ne-eqb l 255 n)
 
 pub late-none : (a k : ℕ) (r : Reading) → a ≡ 255 → late (orNone 255 a) k r ≡ r
 late-none a k r e = rw (eq-eqb a 255 e)

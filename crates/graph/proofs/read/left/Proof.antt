@@ -1,6 +1,6 @@
 -- By whether there is an accept. Assumes nothing.
-use mathlib.Core.Path.{sym}
-use Rattle.graph.proofs.Turn.{late-none, late-some}
+use mathlib.Core.Path.{sym, _∙_}
+use Rattle.graph.proofs.Turn.{recorded-some, late-none, late-some}
 use Rattle.graph.proofs.read.left.Statement.{statement}
 use Rattle.graph.proofs.read.left.Tie as tie
 use Rattle.graph.proofs.read.left.Reads as reads
@@ -10,7 +10,8 @@ returns : tie.Need-returns
 returns c = sym (late-none _ _ _ (c .if1 .taken))
 
 returns-2 : tie.Need-returns-2
-returns-2 c = sym (late-some _ _ _ (c .if1 .left))
+returns-2 c =
+    let n = c .if1 .left in recorded-some _ _ n ∙ sym (late-some _ _ _ n)
 
 pub left-spec : {M : Type 1} → statement M
 left-spec = tie.close (tie.spec returns returns-2)
