@@ -82,14 +82,27 @@ fn tied(random: &mut Random) -> Table {
     table
 }
 
+/// Each state leads to the next one, so that all but state 0 are reached, and most stay apart.
+fn connected(random: &mut Random, states: usize) -> Table {
+    let mut table = wild(random, states);
+    let byte = usize::from(random.byte());
+    for state in 1..states - 1 {
+        table.states[state].targets[byte] = state as u16 + 1;
+    }
+    table.start = 1;
+    table
+}
+
 /// Tables of kinds that `random_table` has seldom or never: the largest, every byte of many states for itself, hundreds of rounds, many ties.
 fn rare_table(random: &mut Random) -> Table {
-    let [middling, large, rounds] = [(31, 300), (1000, 1024), (135, 510)].map(|(least, most)| random.within(least, most));
-    match random.below(10) {
+    let [middling, some, rounds] = [(31, 300), (1000, 1024), (135, 510)].map(|(least, most)| random.within(least, most));
+    let large = if random.percent(50) { 1024 } else { some };
+    match random.below(12) {
         0 => dense(random, middling),
         1 => wild(random, large),
         2 => layered(random, large),
         3 => many_rounds(rounds, random.percent(50)),
+        4 | 5 => connected(random, large),
         _ => tied(random),
     }
 }
