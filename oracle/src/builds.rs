@@ -10,7 +10,7 @@ use logos_codegen::graph::GraphError;
 mod cases;
 mod list;
 
-pub use cases::random_case;
+pub use cases::{damaged, random_case};
 pub use list::{k1, list};
 
 pub struct Case {

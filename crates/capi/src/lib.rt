@@ -12,3 +12,4 @@ pub mod masks;
 pub mod priorities;
 pub mod read;
 pub mod scan;
+pub mod text;
