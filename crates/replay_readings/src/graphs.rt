@@ -73,7 +73,7 @@ fn all_texts(list: &[u8], before: Counted, graph: &[u16], out: &mut [usize]) -> 
     c
 }
 
-// The graph that stands next, and its words; none, where the list's are not sound.
+// The graph that stands next, by its words, which are none where the list's are not sound.
 fn by_words(list: &[u8], before: Counted, graph: &[u16], out: &mut [usize]) -> Counted {
     let at = before.at;
     let said = vectors::runs::end(list, at);

@@ -59,8 +59,7 @@ fn all_texts(
 
 // ---- tables
 
-// The table with number i, which stands next, and its words and its stored graph words; none, where the list's are not
-// sound.
+// The table with number i, which stands next, by its words and its stored graph words; both are none where the list's are not sound.
 fn by_words(
     list: &[u8],
     before: Counted,
