@@ -1,4 +1,4 @@
--- Of a clean table every kept state of the unpruned graph is reached from its root. Assumes nothing.
+-- Of an orderly table every kept state of the unpruned graph is reached from its root. Assumes nothing.
 use mathlib.Core.Path.{_≡_, refl, sym, ap, subst, _∙_}
 use mathlib.Core.Bool.{true, _||_, false≢true}
 use mathlib.Core.List.{List}
@@ -18,7 +18,7 @@ use Rattle.lists.proofs.Any.{any-found}
 use Rattle.rules.specs.Table.{Table, size, rowOf, step}
 use Rattle.rules.specs.Graph.{Graph, stateOf, to, acceptOf, earlyOf, leads, FromRoot, at-root, on-edge}
 use Rattle.rules.specs.Build.{stepsTo, reached, contenders, leafOf, edge, restrict, wholeGraph, withEarly, withCleared, unpruned, kept, marked, present}
-use Rattle.rules.specs.Read.{Clean}
+use Rattle.rules.specs.Read.{Orderly}
 use Rattle.rules.proofs.Rename.{Named, led}
 use Rattle.rules.proofs.Prune.{kept-length, restrict-onto, restrict-root}
 use Rattle.rules.proofs.Marks.{cleared-length, early-length}
@@ -95,17 +95,17 @@ module _ (t : Table) (sh : Shaped t) (s₀ : ℕ) (st : t .start ≡ some s₀) 
   un-onto : (i : ℕ) → i < length (unpruned t s₀ .states) → (s : ℕ) × Named names s i
   un-onto i h = restrict-onto (wholeGraph t s₀) (reached t s₀) (lengths t sh s₀ st) i (rw un-length at h)
 
-  module _ (clean : Clean t) where
+  module _ (orderly : Orderly t) where
     zero-leaf : leafOf t 0 ≡ none
     unfolding leafOf contenders
-    zero-leaf = rw (clean .zero-chain)
+    zero-leaf = rw (orderly .zero-chain)
 
     zero-edge : 0 < size t → (c : ℕ) → edge (step t 0 c) ≡ none
     unfolding step
     zero-edge h c =
         ap edge
         (⊎-elim
-        (λ b. clean .zero-steps c b)
+        (λ b. orderly .zero-steps c b)
         (λ b. let w = sh .width 0 h in List·getD-eq-default (rowOf t 0 .steps) 0 (omega arith))
         (lt-or-le c 257))
 
@@ -125,7 +125,7 @@ module _ (t : Table) (sh : Shaped t) (s₀ : ℕ) (st : t .start ≡ some s₀) 
             let e′ : edge (step t k c) ≡ some s = ap edge q ∙ edge-of s z in
             let (i′, m′, e″) = un-leads t sh s₀ st k j c s m c′ e′ in
             let d : i′ ≡ i = some-inj (sym m′ ∙ n) in
-            on-edge (ih (λ k0. z (sym q ∙ ap (λ (x : ℕ). step t x c) k0 ∙ clean .zero-steps c c′)) j m) c (e″ ∙ ap {B = Option ℕ} some d)
+            on-edge (ih (λ k0. z (sym q ∙ ap (λ (x : ℕ). step t x c) k0 ∙ orderly .zero-steps c c′)) j m) c (e″ ∙ ap {B = Option ℕ} some d)
 
     -- state 0 has no marks and no edges: it is kept only as the root
     zero-kept : (i : ℕ) → Named names 0 i → In (kept g) i → FromRoot g i

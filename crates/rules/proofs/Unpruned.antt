@@ -1,4 +1,4 @@
--- The unpruned graph (rules 2 to 6) of a table: the three facts of `Alike` hold of it where the table is clean. Assumes nothing.
+-- The unpruned graph (rules 2 to 6) of a table: the three facts of `Alike` hold of it where the table is orderly. Assumes nothing.
 use mathlib.Core.Path.{_≡_, refl, sym, ap, subst, _∙_}
 use mathlib.Core.Bool.{true}
 use mathlib.Core.List.{List, map}
@@ -20,7 +20,7 @@ use Rattle.lists.proofs.Any.{any-at}
 use Rattle.rules.specs.Table.{Table, size, rowOf, step}
 use Rattle.rules.specs.Graph.{State, Graph, blank, stateOf, to, acceptOf, earlyOf}
 use Rattle.rules.specs.Build.{stepsTo, reached, renamed, restrict, leafOf, edge, firstState, wholeGraph, withEarly, covered, unpruned}
-use Rattle.rules.specs.Read.{Clean}
+use Rattle.rules.specs.Read.{Orderly}
 use Rattle.rules.proofs.Rename.{Named, led, new-accept, new-root, new-to, relabel-state}
 use Rattle.rules.proofs.Prune.{restrict-found, restrict-length, restrict-placed}
 use Rattle.rules.proofs.Marks.{cleared-accept, cleared-early, cleared-to, covered-parent, early-accept, early-byte, early-end, early-length, early-to}
@@ -165,7 +165,7 @@ module _ (t : Table) (sh : Shaped t) (s₀ : ℕ) (st : t .start ≡ some s₀) 
       let (u, e′, m) = from-to s i b j n e in
       (u, e′, sym (first-accept u j m) ∙ a)
 
-  module _ (clean : Clean t) where
+  module _ (orderly : Orderly t) where
     un-end : (s i l : ℕ) → Named names s i → earlyOf (unpruned t s₀) i ≡ some l → (u : ℕ) × (edge (step t s 256) ≡ some u) × (leafOf t u ≡ some l)
     un-end s i l n q = go (step t s 256) refl
       where
@@ -173,7 +173,7 @@ module _ (t : Table) (sh : Shaped t) (s₀ : ℕ) (st : t .start ≡ some s₀) 
         all b h = let (u, e, a) = un-byte s i l b n q h in ap (leafOf t) (edge-is _ u e) ∙ a
 
         go : (x : ℕ) → step t s 256 ≡ x → (u : ℕ) × (edge (step t s 256) ≡ some u) × (leafOf t u ≡ some l)
-        go zero e = absurd (clean .end-too s₀ s l st (named-in s i n) all e)
+        go zero e = absurd (orderly .end-too s₀ s l st (named-in s i n) all e)
         go (suc u) e =
             let e′ : edge (step t s 256) ≡ some (suc u) = ap edge e in
             let (j, m, e″) = un-leads s i 256 (suc u) n (omega arith) e′ in
