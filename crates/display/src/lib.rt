@@ -8,12 +8,6 @@
 // is in proofs/Sizes.antt and proofs/Conflicts.antt; that a buffer of that size is never refused, in proofs/Rooms.antt.
 
 ghost use mathlib.Core.Path.{_≡_};
-ghost use mathlib.Core.Bool.{true};
-ghost use mathlib.Core.List.{_++_};
-ghost use Prim.Native.Nat.{_≤_, _<_};
-ghost use lib.ListN.{length, getD, drop};
-ghost use Rattle.rules.specs.Graph.{stateOf, graphFrom, graphFits};
-ghost use Rattle.display.specs.Display.{stateText};
 ghost use Rattle.display.specs.Answers.{displayCall, lineCall};
 
 pub mod byte_class;
@@ -21,9 +15,6 @@ pub mod errors;
 pub mod graph;
 pub mod put;
 pub mod state;
-
-// No state's text is longer.
-pub const STATE_ROOM: usize = 6476;
 
 // How many bytes were written; or the number of a refusal, the buffer being as found.
 pub enum Shown {
@@ -44,19 +35,6 @@ pub fn display(graph: &[u16], out: &mut [u8]) -> Shown
         return Shown::Refused(29);
     }
     Shown::Bytes(graph::states(out, 0, graph))
-}
-
-// The text of state s alone, from the front of a buffer that has room for any state's. The text of a graph is the texts of its states, with a line
-// end between two.
-pub fn display_state(graph: &[u16], s: usize, out: &mut [u8]) -> usize
-    requires { ⌜ graphFits (now graph) ≡ true ⌝ }
-    requires { ⌜ s < getD (now graph) 0 0 ⌝ }
-    requires { ⌜ 6476 ≤ length (now out) ⌝ }
-    ensures count { λ r. ⌜ r ≡ length (stateText (getD (now (graph .entry)) 0 0) s (stateOf (graphFrom (now (graph .entry))) s)) ⌝ }
-    ensures room { λ r. ⌜ r ≤ 6476 ⌝ }
-    ensures buffer { λ r. ⌜ now (out .exit) ≡ stateText (getD (now (graph .entry)) 0 0) s (stateOf (graphFrom (now (graph .entry))) s) ++ drop r (now (out .entry)) ⌝ }
-{
-    state::state(out, 0, graph, s)
 }
 
 // The line of the error that the words begin with, from the front of the buffer. Refused: 9 if the words end before the error does; 29 if the
