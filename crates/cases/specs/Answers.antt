@@ -8,7 +8,7 @@ use Rattle.classes.specs.Classes.{Class, ranges, comparisons, cost}
 use Rattle.pattern.specs.Utf8.{lines, divided, codePoints}
 use Rattle.pattern.specs.Tree.{recordOf, treeOf, chainFrom, chainAt, treeAt, root, rules, ruleOf, fieldsFit, recordFits, named, treeFits}
 use Rattle.pattern.specs.Priority.{priority, valueAt, tooHigh, priorityOf, priorityTold}
-use Rattle.rules.specs.Table.{tableOf, refusal, conditions, matchFits, size, rowOf, step, leafAt, matchOf}
+use Rattle.rules.specs.Table.{tableOf, refusal, conditions, matchFits, size, rowOf, step, leafAt, matchOf, countsFit, emptiesFit, targetsFit, headsFit, recordsFit}
 use Rattle.rules.specs.Graph.{stateOf, to, acceptOf, earlyOf, leads, same, stateWords, graphWords, stateFrom, graphFrom, graphFits}
 use Rattle.rules.specs.Build.{errorWords, build, emptyLeaves, unpruned, merged, mergesNone, mergeRound, pruned, kept, withCleared, cleared, covered, withEarly, children, wholeGraph, firstState, ties, leafOf, contenders, chain, restrict, relabel, renamed, reached}
 use Rattle.rules.specs.Read.{readTable, readGraph, tableWalker, graphWalker}
@@ -37,7 +37,7 @@ priorityNumbers tree bytes = numbers (priorityTold (priorityOf tree bytes))
 -- ---- a table's build
 
 unfoldable pub refusalOf : List ℕ → List ℕ
-unfolding refusal conditions tableOf matchFits matchOf
+unfolding refusal conditions tableOf matchFits matchOf countsFit emptiesFit targetsFit headsFit recordsFit
 refusalOf w = refusal w ∷ []
 
 unfoldable pub graphOf : List ℕ → List ℕ

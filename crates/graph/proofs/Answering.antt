@@ -6,7 +6,7 @@ use Prim.Native.Nat.{ℕ, suc, _+_, _<_}
 use native.Mathlib.Omega.{arith}
 use borrow.Author.Tests.{eq-eqb, ne-eqb}
 use lib.ListN.{length}
-use Rattle.rules.specs.Table.{tableOf, conditions, firstBroken, refusal}
+use Rattle.rules.specs.Table.{tableOf, conditions, firstBroken, refusal, countsFit, emptiesFit, targetsFit, headsFit, recordsFit}
 use Rattle.rules.specs.Graph.{graphFits, graphFrom}
 use Rattle.rules.specs.Read.{Reading, readGraph, readTable}
 use Rattle.graph.specs.declared.read.Read.{Read}
@@ -31,7 +31,7 @@ table-answered table text e = rw (eq-eqb (refusal table) 0 e, tableRead)
 
 -- a refusal is a small number
 pub refusal-small : (w : List ℕ) → refusal w < 9
-unfolding refusal conditions
+unfolding refusal conditions countsFit emptiesFit targetsFit headsFit recordsFit
 refusal-small w = broken-below 1 (conditions w)
   where
     broken-below : (k : ℕ) (l : List Bool) → firstBroken k l < suc (k + length l)

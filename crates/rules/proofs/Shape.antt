@@ -16,7 +16,7 @@ use Rattle.lists.specs.Lists.{allL, below, pieces}
 use Rattle.lists.proofs.Bools.{and-both, and-intro, or-cases, Is, is, no-is, none-some, some-inj, lt-or-le, yes-is}
 use Rattle.lists.proofs.Elements.{getD-tab0, length-tab, all-at, eqb-sound, map-at}
 use Rattle.lists.proofs.Distinct.{those-keep}
-use Rattle.rules.specs.Table.{Row, Table, tableOf, size, rowOf, step, matchOf, matchFits, conditions, firstBroken, refusal}
+use Rattle.rules.specs.Table.{Row, Table, tableOf, size, rowOf, step, matchOf, matchFits, conditions, firstBroken, refusal, countsFit, emptiesFit, targetsFit, headsFit, recordsFit}
 use Rattle.rules.specs.Build.{chainFrom, chain, contenders, single, leafOf}
 
 pub record Shaped (t : Table) : Type 0 where
@@ -49,11 +49,11 @@ module _ (w : List ℕ) (legal : refusal w ≡ 0) where
   holds i = none-broken 0 (conditions w) legal i
 
   pub some-state : 1 ≤ getD w 0 0
-  unfolding conditions
+  unfolding conditions countsFit emptiesFit targetsFit headsFit recordsFit
   some-state = leb-true 1 (getD w 0 0) (and-both (leb 1 (getD w 0 0)) _ (holds 1) .0)
 
   ranges : (getD w 0 0 ≤ 1024) × (getD w 2 0 ≤ 255)
-  unfolding conditions
+  unfolding conditions countsFit emptiesFit targetsFit headsFit recordsFit
   ranges =
       let a = and-both (leb 1 (getD w 0 0)) _ (holds 1) .1 in
       let b = and-both (leb (getD w 0 0) 1024) _ a in
@@ -67,7 +67,7 @@ module _ (w : List ℕ) (legal : refusal w ≡ 0) where
   few-leaves = ranges .1
 
   pub exact : length w ≡ 4 + 3 * getD w 2 0 + 258 * getD w 0 0 + 2 * getD w 3 0
-  unfolding conditions
+  unfolding conditions countsFit emptiesFit targetsFit headsFit recordsFit
   exact = eqb-true (length w) (4 + 3 * getD w 2 0 + 258 * getD w 0 0 + 2 * getD w 3 0) (holds 2)
 
   abbrev rowPieces : List (List ℕ)
@@ -100,7 +100,7 @@ module _ (w : List ℕ) (legal : refusal w ≡ 0) where
 
   -- condition 6, at a row
   rows-fit : (s : ℕ) → s < size (tableOf w) → allL (λ k. ltb k (getD w 0 0)) (rowOf (tableOf w) s .steps) ≡ true
-  unfolding conditions size rowOf
+  unfolding conditions size rowOf countsFit emptiesFit targetsFit headsFit recordsFit
   rows-fit s h = all-at (λ (row : Row). allL (λ k. ltb k (getD w 0 0)) (row .steps)) (tableOf w .rows) s (record { steps = []; head = 0 }) (holds 5) h
 
   pub legal-step : (s c : ℕ) → s < size (tableOf w) → step (tableOf w) s c < size (tableOf w)
@@ -118,7 +118,7 @@ module _ (w : List ℕ) (legal : refusal w ≡ 0) where
           let p = some-state in let q = size-is in omega arith
 
   pub legal-start : (s : ℕ) → tableOf w .start ≡ some s → s < size (tableOf w)
-  unfolding tableOf conditions
+  unfolding tableOf conditions countsFit emptiesFit targetsFit headsFit recordsFit
   legal-start s e = go (is (eqb (getD w 1 0) 65535))
     where
       go : Is (eqb (getD w 1 0) 65535) → s < size (tableOf w)
@@ -136,14 +136,14 @@ module _ (w : List ℕ) (legal : refusal w ≡ 0) where
   table-leaves = length-map (pieces 3 (getD w 2 0) (drop 4 w)) _ ∙ pieces-length 3 (getD w 2 0) (drop 4 w)
 
   match-fits : (i : ℕ) → i < getD w 3 0 → matchFits (tableOf w) (suc i) ≡ true
-  unfolding conditions
+  unfolding conditions countsFit emptiesFit targetsFit headsFit recordsFit
   match-fits i h =
       let a = and-both (allL (λ (row : Row). leb (row .head) (getD w 3 0)) (tableOf w .rows)) _ (holds 6) .1 in
       ap (λ (x : ℕ). matchFits (tableOf w) (suc x)) (sym (getD-tab0 (getD w 3 0) (λ x. x) i 0 h))
       ∙ all-at (λ i. matchFits (tableOf w) (suc i)) (below (getD w 3 0)) i 0 a (rw (length-tab 0 (getD w 3 0) (λ x. x)) h)
 
   head-fits : (s : ℕ) → rowOf (tableOf w) s .head ≤ getD w 3 0
-  unfolding conditions rowOf
+  unfolding conditions rowOf countsFit emptiesFit targetsFit headsFit recordsFit
   head-fits s =
       let rows = tableOf w .rows in
       let a : allL (λ row. leb (row .head) (getD w 3 0)) rows ≡ true = and-both (allL (λ row. leb (row .head) (getD w 3 0)) rows) _ (holds 6) .0 in

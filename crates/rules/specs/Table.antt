@@ -70,6 +70,25 @@ matchFits t i =
     let r = matchOf t i in
     ltb (r .leaf) (length (t .leaves)) && (ltb (r .next) i && (eqb (r .next) 0 || ltb (r .leaf) (matchOf t (r .next) .leaf)))
 
+-- 2: "n, m or r out of range"
+unfoldable pub countsFit : ℕ → ℕ → ℕ → Bool
+countsFit n m r = leb 1 n && (leb n 1024 && (leb m 255 && leb r 4095))
+
+-- 5: "empty flag above 1"
+unfoldable pub emptiesFit : List ℕ → Bool
+emptiesFit w = allL (λ l. leb (l .empty) 1) (tableOf w .leaves)
+
+-- 6: "a target not below n"
+unfoldable pub targetsFit : List ℕ → Bool
+targetsFit w = allL (λ row. allL (λ u. ltb u (getD w 0 0)) (row .steps)) (tableOf w .rows)
+
+-- 7: "head above r, or a record breaks its rule"
+unfoldable pub headsFit : List ℕ → Bool
+headsFit w = allL (λ row. leb (row .head) (getD w 3 0)) (tableOf w .rows)
+
+unfoldable pub recordsFit : List ℕ → Bool
+recordsFit w = allL (λ i. matchFits (tableOf w) (suc i)) (below (getD w 3 0))
+
 -- the conditions, in order
 unfoldable pub conditions : List ℕ → List Bool
 conditions w =
@@ -77,14 +96,13 @@ conditions w =
     let start = getD w 1 0 in
     let m = getD w 2 0 in
     let r = getD w 3 0 in
-    let t = tableOf w in
     leb 4 (length w) ∷  -- 1
-    (leb 1 n && (leb n 1024 && (leb m 255 && leb r 4095))) ∷  -- 2
+    countsFit n m r ∷  -- 2
     eqb (length w) (4 + 3 * m + 258 * n + 2 * r) ∷  -- 3
     (ltb start n || eqb start 65535) ∷  -- 4
-    allL (λ l. leb (l .empty) 1) (t .leaves) ∷  -- 5
-    allL (λ row. allL (λ u. ltb u n) (row .steps)) (t .rows) ∷  -- 6
-    (allL (λ row. leb (row .head) r) (t .rows) && allL (λ i. matchFits t (suc i)) (below r)) ∷ []  -- 7
+    emptiesFit w ∷  -- 5
+    targetsFit w ∷  -- 6
+    (headsFit w && recordsFit w) ∷ []  -- 7
 
 -- "lowest number first": the number, from k, of the first condition that does not hold; 0 if all hold
 abbrev pub firstBroken : ℕ → List Bool → ℕ

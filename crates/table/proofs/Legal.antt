@@ -12,10 +12,10 @@ use borrow.Author.Tests.{eqb-true, ltb-true, leb-true, lt-ltb, le-leb, eq-eqb}
 use lib.Dec.{eqb, leb, ltb}
 use lib.ListN.{length, getD}
 use Rattle.lists.proofs.Bools.{and-both, and-intro, or-cases, or-left, or-right}
-use Rattle.rules.specs.Table.{conditions, firstBroken, refusal}
+use Rattle.rules.specs.Table.{conditions, firstBroken, refusal, countsFit, emptiesFit, targetsFit, headsFit, recordsFit}
 use Rattle.rules.proofs.Shape.{none-broken}
 use Rattle.words.specs.Places.{tableLength}
-use Rattle.table.specs.Conditions.{states, leaves, records, Sized, Legal, countsFit, emptiesFit, targetsFit, headsFit, recordsFit}
+use Rattle.table.specs.Conditions.{states, leaves, records, Sized, Legal}
 use Rattle.table.proofs.Judging.{empties-judged, targets-judged, heads-judged, records-all, records-each}
 
 -- the first k conditions hold
@@ -44,27 +44,27 @@ module _ (w : List ℕ) where
 
   -- the lowest that is broken
   pub refused : (k : ℕ) → k < 7 → Passed w k → getD (conditions w) k true ≡ false → refusal w ≡ k + 1
-  unfolding refusal conditions
+  unfolding refusal conditions countsFit emptiesFit targetsFit headsFit recordsFit
   refused k h f e = first-broken 1 k (conditions w) h f e ∙ omega arith
 
   pub passed-all : Passed w 7 → refusal w ≡ 0
-  unfolding refusal conditions
+  unfolding refusal conditions countsFit emptiesFit targetsFit headsFit recordsFit
   passed-all f = all-hold 1 (conditions w) f
 
   -- ---- the conditions in words
 
   pub counts-are : (n m r : ℕ) → n ≡ states w → m ≡ leaves w → r ≡ records w → countsFit n m r ≡ getD (conditions w) 1 true
-  unfolding conditions countsFit
+  unfolding conditions countsFit emptiesFit targetsFit headsFit recordsFit
   counts-are n m r a b c = λ i. countsFit (a i) (b i) (c i)
 
   pub counts-pass : 1 ≤ states w → states w ≤ 1024 → leaves w ≤ 255 → records w ≤ 4095 → getD (conditions w) 1 true ≡ true
-  unfolding conditions
+  unfolding conditions countsFit emptiesFit targetsFit headsFit recordsFit
   counts-pass a b c d =
       and-intro (leb 1 (states w)) _ (le-leb 1 (states w) a) (and-intro (leb (states w) 1024) _ (le-leb (states w) 1024 b)
       (and-intro (leb (leaves w) 255) _ (le-leb (leaves w) 255 c) (le-leb (records w) 4095 d)))
 
   pub counts-mean : getD (conditions w) 1 true ≡ true → (1 ≤ states w) × (states w ≤ 1024) × (leaves w ≤ 255) × (records w ≤ 4095)
-  unfolding conditions
+  unfolding conditions countsFit emptiesFit targetsFit headsFit recordsFit
   counts-mean e =
       let a = and-both (leb 1 (states w)) _ e in
       let b = and-both (leb (states w) 1024) _ (a .1) in
@@ -72,7 +72,7 @@ module _ (w : List ℕ) where
       (leb-true 1 (states w) (a .0), leb-true (states w) 1024 (b .0), leb-true (leaves w) 255 (c .0), leb-true (records w) 4095 (c .1))
 
   pub sized-means : Passed w 3 → Sized w
-  unfolding conditions
+  unfolding conditions countsFit emptiesFit targetsFit headsFit recordsFit
   sized-means f =
       let (a, b, c, d) = counts-mean (f 1 (omega arith)) in
       record {
@@ -85,14 +85,14 @@ module _ (w : List ℕ) where
       }
 
   pub sized-shown : Sized w → Passed w 3
-  unfolding conditions
+  unfolding conditions countsFit emptiesFit targetsFit headsFit recordsFit
   sized-shown z =
       passed-more 2
       (passed-more 1 (passed-more 0 passed-none (le-leb 4 (length w) (z .four))) (counts-pass (z .some-state) (z .few-states) (z .few-leaves) (z .few-records)))
       (eq-eqb (length w) (tableLength (states w) (leaves w) (records w)) (z .exact))
 
   pub start-pass : (getD w 1 0 < states w) ⊎ (getD w 1 0 ≡ 65535) → getD (conditions w) 3 true ≡ true
-  unfolding conditions
+  unfolding conditions countsFit emptiesFit targetsFit headsFit recordsFit
   start-pass f =
       ⊎-elim
       (λ b. or-left (ltb (getD w 1 0) (states w)) _ (lt-ltb (getD w 1 0) (states w) b))
@@ -100,7 +100,7 @@ module _ (w : List ℕ) where
       f
 
   pub start-means : getD (conditions w) 3 true ≡ true → (getD w 1 0 < states w) ⊎ (getD w 1 0 ≡ 65535)
-  unfolding conditions
+  unfolding conditions countsFit emptiesFit targetsFit headsFit recordsFit
   start-means e =
       ⊎-elim (λ b. inl (ltb-true (getD w 1 0) (states w) b)) (λ b. inr (eqb-true (getD w 1 0) 65535 b))
       (or-cases (ltb (getD w 1 0) (states w)) (eqb (getD w 1 0) 65535) e)
@@ -108,7 +108,7 @@ module _ (w : List ℕ) where
   -- ---- both ways
 
   pub legal-means : refusal w ≡ 0 → Legal w
-  unfolding refusal conditions emptiesFit targetsFit headsFit recordsFit
+  unfolding refusal conditions emptiesFit targetsFit headsFit recordsFit countsFit
   legal-means e =
       let f : (i : ℕ) → getD (conditions w) i true ≡ true = none-broken 0 (conditions w) e in
       let z = sized-means (λ j h. f j) in
@@ -126,7 +126,7 @@ module _ (w : List ℕ) where
   legal-sized e = legal-means e .sized
 
   pub legal-shown : Legal w → refusal w ≡ 0
-  unfolding conditions emptiesFit targetsFit headsFit recordsFit
+  unfolding conditions emptiesFit targetsFit headsFit recordsFit countsFit
   legal-shown l =
       passed-all
       (passed-more 6

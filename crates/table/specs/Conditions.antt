@@ -1,14 +1,10 @@
 -- A legal table in the paper's words, on the flat words (`Legal`): refusal 0 means just this, both ways (proofs/Legal). Beside it what the parts of the
--- check answer: the conditions 1 to 3 as facts (`Sized`), and the conditions 2 and 5 to 7 by name. Definitions only.
+-- check answer: the conditions 1 to 3 as facts (`Sized`). Definitions only.
 use mathlib.Core.Path.{_≡_}
-use mathlib.Core.Bool.{Bool, _&&_}
 use mathlib.Core.List.{List}
 use mathlib.Core.Logic.{_⊎_}
-use Prim.Native.Nat.{ℕ, suc, _≤_, _<_}
-use lib.Dec.{leb, ltb}
+use Prim.Native.Nat.{ℕ, _≤_, _<_}
 use lib.ListN.{length, getD}
-use Rattle.lists.specs.Lists.{allL, below}
-use Rattle.rules.specs.Table.{tableOf, matchFits}
 use Rattle.words.specs.Places.{leafPlace, rowPlace, matchPlace, tableLength}
 
 -- ---- the words, by what they say
@@ -64,25 +60,3 @@ pub record Legal (w : List ℕ) : Type 0 where
   pub targets : (s c : ℕ) → s < states w → c < 257 → targetWord w s c < states w  -- 6
   pub heads : (s : ℕ) → s < states w → headWord w s ≤ records w  -- 7
   pub matches : (i : ℕ) → 0 < i → i ≤ records w → RecordFits w i  -- 7
-
--- ---- the conditions that functions of their own judge
-
--- 2
-unfoldable pub countsFit : ℕ → ℕ → ℕ → Bool
-countsFit n m r = leb 1 n && (leb n 1024 && (leb m 255 && leb r 4095))
-
--- 5
-unfoldable pub emptiesFit : List ℕ → Bool
-emptiesFit w = allL (λ l. leb (l .empty) 1) (tableOf w .leaves)
-
--- 6
-unfoldable pub targetsFit : List ℕ → Bool
-targetsFit w = allL (λ row. allL (λ u. ltb u (states w)) (row .steps)) (tableOf w .rows)
-
--- 7
-unfoldable pub headsFit : List ℕ → Bool
-headsFit w = allL (λ row. leb (row .head) (records w)) (tableOf w .rows)
-
--- 7
-unfoldable pub recordsFit : List ℕ → Bool
-recordsFit w = allL (λ i. matchFits (tableOf w) (suc i)) (below (records w))

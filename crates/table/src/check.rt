@@ -2,8 +2,8 @@
 ghost use mathlib.Core.Path.{_≡_};
 ghost use lib.ListN.{length};
 ghost use Rattle.rules.specs.Build.{emptyLeaves};
-ghost use Rattle.rules.specs.Table.{refusal, tableOf};
-ghost use Rattle.table.specs.Conditions.{Sized, countsFit, emptiesFit, targetsFit, headsFit, recordsFit};
+ghost use Rattle.rules.specs.Table.{refusal, tableOf, countsFit, emptiesFit, targetsFit, headsFit, recordsFit};
+ghost use Rattle.table.specs.Conditions.{Sized};
 use words::table::leaf_word;
 use words::table::leaves;
 use words::table::match_word;

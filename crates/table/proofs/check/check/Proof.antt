@@ -8,9 +8,9 @@ use native.Mathlib.Omega.{arith}
 use borrow.Author.Tests.{le-leb, lt-leb, le-ltb, eq-eqb, ne-eqb, not-true, not-false}
 use lib.ListN.{length, getD}
 use Rattle.lists.proofs.Bools.{and-right-false, and-intro}
-use Rattle.rules.specs.Table.{conditions}
+use Rattle.rules.specs.Table.{conditions, countsFit, emptiesFit, targetsFit, headsFit, recordsFit}
 use Rattle.words.specs.Places.{tableLength}
-use Rattle.table.specs.Conditions.{states, leaves, records, Sized, emptiesFit, targetsFit, headsFit, recordsFit}
+use Rattle.table.specs.Conditions.{states, leaves, records, Sized}
 use Rattle.table.proofs.Legal.{Passed, passed-none, passed-more, refused, passed-all, counts-are, sized-means, start-pass}
 use borrow.Author.Needs.{needs}
 use Rattle.table.proofs.check.check.Statement.{statement}
@@ -22,7 +22,7 @@ abbrev longWords : tie.Else1 → List ℕ
 longWords c = c .before .before .args .table .now
 
 long-passed : (c : tie.Else1) → Passed (longWords c) 1
-unfolding conditions
+unfolding conditions countsFit emptiesFit targetsFit headsFit recordsFit
 long-passed c = passed-more (longWords c) 0 (passed-none (longWords c)) (le-leb 4 (length (longWords c)) (c .if1 .left))
 
 abbrev countedWords : tie.After-counts-fit → List ℕ
@@ -41,7 +41,7 @@ abbrev sizedWords : tie.Else3 → List ℕ
 sizedWords c = countedWords (c .before .before .before)
 
 length-passed : (c : tie.Else3) → Passed (sizedWords c) 3
-unfolding conditions
+unfolding conditions countsFit emptiesFit targetsFit headsFit recordsFit
 length-passed c =
     let w = sizedWords c in
     passed-more w 2 (counts-passed (c .before .before)) (eq-eqb (length w) (tableLength (states w) (leaves w) (records w)) (omega arith))
@@ -58,19 +58,19 @@ sized : (c : tie.Joined4) → Sized (startedWords c)
 sized c = sized-means (startedWords c) (length-passed (c .before .before))
 
 empties-passed : (c : tie.Else6) → Passed (startedWords (c .before .before)) 5
-unfolding conditions emptiesFit
+unfolding conditions emptiesFit countsFit targetsFit headsFit recordsFit
 empties-passed c =
     passed-more (startedWords (c .before .before)) 4 (start-passed (c .before .before)) (sym (c .before .empties-fit .ensures) ∙ not-false _ (c .if6 .left))
 
 targets-passed : (c : tie.Else7) → Passed (startedWords (c .before .before .before .before)) 6
-unfolding conditions targetsFit
+unfolding conditions targetsFit countsFit emptiesFit headsFit recordsFit
 targets-passed c =
     passed-more (startedWords (c .before .before .before .before)) 5 (empties-passed (c .before .before)) (sym (c .before .targets-fit .ensures) ∙ not-false _ (c .if7 .left))
 
 -- ---- the answers
 
 returns : tie.Need-returns
-unfolding conditions
+unfolding conditions countsFit emptiesFit targetsFit headsFit recordsFit
 returns c =
     sym (refused (c .before .before .args .table .now) 0 (omega arith) (passed-none (c .before .before .args .table .now)) (lt-leb 4 _ (c .if1 .taken)))
 
@@ -94,7 +94,7 @@ size-requires : tie.Need-size-requires
 size-requires c κs = search needs
 
 returns-3 : tie.Need-returns-3
-unfolding conditions
+unfolding conditions countsFit emptiesFit targetsFit headsFit recordsFit
 returns-3 c =
     let d = c .before .before in
     let w = countedWords (d .before) in
@@ -105,7 +105,7 @@ start-requires : tie.Need-start-requires
 start-requires c κs = search needs
 
 returns-4 : tie.Need-returns-4
-unfolding conditions
+unfolding conditions countsFit emptiesFit targetsFit headsFit recordsFit
 returns-4 c =
     let d = c .before .before .before in
     let w = sizedWords d in
@@ -116,7 +116,7 @@ empties-fit-requires : tie.Need-empties-fit-requires
 empties-fit-requires c κs = sized c
 
 returns-5 : tie.Need-returns-5
-unfolding conditions emptiesFit
+unfolding conditions emptiesFit countsFit targetsFit headsFit recordsFit
 returns-5 c =
     let d = c .before .before in
     sym (refused (startedWords d) 4 (omega arith) (start-passed d) (sym (c .before .empties-fit .ensures) ∙ not-true _ (c .if6 .taken)))
@@ -125,7 +125,7 @@ targets-fit-requires : tie.Need-targets-fit-requires
 targets-fit-requires c κs = sized (c .before .before)
 
 returns-6 : tie.Need-returns-6
-unfolding conditions targetsFit
+unfolding conditions targetsFit countsFit emptiesFit headsFit recordsFit
 returns-6 c =
     let d = c .before .before in
     sym (refused (startedWords (d .before .before)) 5 (omega arith) (empties-passed d) (sym (c .before .targets-fit .ensures) ∙ not-true _ (c .if7 .taken)))
@@ -134,7 +134,7 @@ heads-fit-requires : tie.Need-heads-fit-requires
 heads-fit-requires c κs = sized (c .before .before .before .before)
 
 returns-7 : tie.Need-returns-7
-unfolding conditions headsFit
+unfolding conditions headsFit countsFit emptiesFit targetsFit recordsFit
 returns-7 c =
     let d = c .before .before in
     let w = startedWords (d .before .before .before .before) in
@@ -145,7 +145,7 @@ records-fit-requires : tie.Need-records-fit-requires
 records-fit-requires c κs = sized (c .before .before .before .before .before .before)
 
 returns-8 : tie.Need-returns-8
-unfolding conditions headsFit recordsFit
+unfolding conditions headsFit recordsFit countsFit emptiesFit targetsFit
 returns-8 c =
     let d = c .before .before .before .before in
     let w = startedWords (d .before .before .before .before) in
@@ -153,7 +153,7 @@ returns-8 c =
     sym (refused w 6 (omega arith) (targets-passed d) (and-right-false (headsFit w) (recordsFit w) e))
 
 returns-9 : tie.Need-returns-9
-unfolding conditions headsFit recordsFit
+unfolding conditions headsFit recordsFit countsFit emptiesFit targetsFit
 returns-9 c =
     let d = c .before .before .before .before in
     let w = startedWords (d .before .before .before .before) in

@@ -1,6 +1,6 @@
 -- One test for each count. Assumes nothing.
 use borrow.Author.Tests.{le-leb, lt-leb}
-use Rattle.table.specs.Conditions.{countsFit}
+use Rattle.rules.specs.Table.{countsFit}
 use Rattle.table.proofs.check.counts_fit.Statement.{statement}
 use Rattle.table.proofs.check.counts_fit.Tie as tie
 
