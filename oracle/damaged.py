@@ -45,7 +45,7 @@ def changed(chance, image, count):
         for _ in range(chance.randint(1, 4)):
             # a word of the header, of a leaf or of a record is not often hit by chance alone
             place = chance.choice([chance.randrange(len(image)), chance.randrange(min(64, len(image))), len(image) - 1 - chance.randrange(min(64, len(image)))])
-            damaged[place] = chance.choice([0, 1, 255, chance.randrange(256), damaged[place] ^ 1 << chance.randrange(8)])
+            damaged[place] = chance.choice([0, 1, 255, chance.randrange(256), chance.choice(image), damaged[place] ^ 1 << chance.randrange(8)])
         yield bytes(damaged)
 
 
@@ -63,7 +63,7 @@ def long_ones(chance, images):
     yield image_of(words)
 
 
-def headers(chance):
+def headers():
     """n, start, m and r at their limits, with a length that is exact, a word short, or a word long."""
     for n in [0, 1, 2, 125, 126, 127, 1024, 1025, 65535]:
         for m in [0, 1, 255, 256]:
@@ -118,7 +118,7 @@ def main():
     images = [open(name, "rb").read() for name in names]
     kinds = [(f"beginnings of {os.path.basename(name)}", beginnings(image)) for name, image in zip(names, images)]
     kinds += [(f"{os.path.basename(name)} with bytes changed", changed(chance, image, count)) for name, image in zip(names, images)]
-    kinds += [("long ones", long_ones(chance, images)), ("headers", headers(chance)), ("random bytes", random_ones(chance, count))]
+    kinds += [("long ones", long_ones(chance, images)), ("headers", headers()), ("random bytes", random_ones(chance, count))]
     kinds += [("tables of the oracle", tables(seed, count))]
     whole, slowest = 0, 0
     with concurrent.futures.ThreadPoolExecutor(os.cpu_count()) as pool:
