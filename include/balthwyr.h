@@ -1,8 +1,8 @@
 /* Balthwyr: a lexer generator after the DFA, for C. The functions are proved; docs/C-INTERFACE.md says how to link them.
  *
- * Every function returns the number of a refusal, or 0 where it answers. Document 01 has the numbers 1 to 16; BALTHWYR_SHORT is of this
- * interface. What a function answers goes to the numbers and blocks that it is lent for that. On a refusal those numbers become 0, and every
- * block, store and scan is as found.
+ * Every function returns the number of a refusal, or 0 where it answers. Document 01 has the numbers 1 to 16; BALTHWYR_NO_ROOM and
+ * BALTHWYR_SHORT are not among them. What a function answers goes to the numbers and blocks that it is lent for that. On a refusal those numbers
+ * become 0, and every block, store and scan is as found.
  *
  * A pointer and the `size_t` after it are an array and the number of its elements. The caller sees to it that no pointer is null, also where
  * there are no elements; that it points to as many elements as are told, aligned as their type asks; and that what a call may write overlaps
@@ -22,6 +22,42 @@ extern "C" {
 
 /* The refusal of a block that is shorter than what the call would write to it. */
 #define BALTHWYR_SHORT 255
+
+/* ---- Build
+ *
+ * The graph and the conflicts of a table. The graph goes to the front of `graph`: its number of states, its root, then 258 words a state, 256
+ * targets, the end target and the marks; the words after it are 0 up to 2 + 258 n, n being the table's number of states, and as found after that.
+ * The errors go to the front of `errors`, one behind the other, the words after them as found: kind (a `balthwyr_error`), leaf count, and that
+ * many leaves. So an error takes 2 + its leaf count words, and the next one begins behind it; all errors take *words.
+ *
+ * *states and *root are the graph's first two words, *count is the number of errors, *words how many words they take. A table with errors is
+ * built all the same: 0 does not say that there are none. A graph buffer of 264,194 words and an error buffer of 263,168 words are enough for
+ * every table. */
+
+enum balthwyr_error { BALTHWYR_NO_UNIVERSAL_START = 0, BALTHWYR_EMPTY_MATCH = 1, BALTHWYR_DISAMBIGUATION = 2 };
+
+/* The build of table words. Refusals: 1 to 9. */
+uint8_t balthwyr_build(const uint16_t *table, size_t table_len, uint16_t *graph, size_t graph_len, uint16_t *errors,
+                       size_t errors_len, size_t *states, size_t *root, size_t *count, size_t *words);
+
+/* The build of a table's image, its words as bytes, low byte first. Refusals: 13, then 1 to 9. */
+uint8_t balthwyr_build_image(const uint8_t *image, size_t image_len, uint16_t *graph, size_t graph_len, uint16_t *errors,
+                             size_t errors_len, size_t *states, size_t *root, size_t *count, size_t *words);
+
+/* ---- Text
+ *
+ * A text goes to the front of `out`, the bytes after it as found. *length is its length; there is no zero byte behind it. A text that does not
+ * fit is refused by BALTHWYR_NO_ROOM. */
+
+#define BALTHWYR_NO_ROOM 29
+
+/* The text of a graph, as Rust's Display gives it, no line end after its last line. 6,477 bytes a state are enough. Refusals: 12, 29. */
+uint8_t balthwyr_display(const uint16_t *graph, size_t graph_len, uint8_t *out, size_t out_len, size_t *length);
+
+/* The line of the error that the words begin with, as `error 2 0 1`: kind, leaves. 11 bytes and six a leaf are enough. 9 is for words that end
+ * before the error does. To get all lines of a build's *words words, begin at 0 and go on 2 + errors[at + 1] words after each line while the
+ * place is below *words. Refusals: 9, 29. */
+uint8_t balthwyr_error_line(const uint16_t *errors, size_t errors_len, uint8_t *out, size_t out_len, size_t *length);
 
 /* ---- Readings
  *

@@ -4,7 +4,8 @@
     compare.py NAME SEED COUNT [PROGRAM ARGUMENT..]
 
 The program is given NAME as its last argument, reads a case a line on standard input, and prints an answer a line; without one, oracle/paper
-answers. The first case that is answered differently is shown, and the exit status is 1.
+answers. The first case that is answered differently is shown, and the exit status is 1; so it is where a program fails. COUNT cases are
+taken from SEED on, 2,000 of each seed.
 """
 import os
 import subprocess
@@ -16,7 +17,7 @@ BATCH = 2000
 
 
 def lines(command, given=""):
-    """A program's lines; its end by any other way than success ends the comparison too."""
+    """A program's lines; its end in any other way than with success is an error."""
     return subprocess.run(command, input=given, text=True, stdout=subprocess.PIPE, check=True).stdout.splitlines()
 
 
@@ -29,7 +30,10 @@ def main():
     while done < count:
         cases = lines([ORACLE, "cases", name, str(seed), str(min(BATCH, count - done))])
         given = "".join(case + "\n" for case in cases)
-        ours, theirs = lines(port + [name], given), lines([ORACLE, "answers", name], given)
+        try:
+            ours, theirs = lines(port + [name], given), lines([ORACLE, "answers", name], given)
+        except subprocess.CalledProcessError as failed:
+            sys.exit(f"seed {seed}: {failed}")
         for case, our, their in zip(cases, ours, theirs):
             if our != their:
                 sys.exit(f"differs, seed {seed}\ncase   {case}\noracle {their}\nport   {our}")

@@ -178,11 +178,12 @@ def builds(stored):
 
 
 def display(stored):
-    for _ in range(stored.word()):
-        found = texts.display_text(stored.words())
-        refusal = stored.byte()
-        expected = f"refused-{refusal}" if refusal else stored.bytes(stored.word()).decode("ascii")
-        stored.same(found, expected, "text")
+    for text in (texts.display_text, texts.error_text):
+        for _ in range(stored.word()):
+            found = text(stored.words())
+            refusal = stored.byte()
+            expected = f"refused-{refusal}" if refusal else stored.bytes(stored.word()).decode("ascii")
+            stored.same(found, expected, "text")
 
 
 # ---- readings

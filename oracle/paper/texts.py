@@ -1,6 +1,6 @@
-"""The text of a graph (document 01, "Cases")."""
+"""The text of a graph, and the line of an error (document 01, "Cases")."""
 from classes import ranges
-from forms import Refused, words_of
+from forms import Refused, need, words_of
 from graphs import graph_of
 
 
@@ -30,11 +30,25 @@ def in_one_line(text):
     return text.replace("\n", "¶")
 
 
-def display_text(words):
+def text_or_refusal(ask):
     try:
-        return display(graph_of(words))
+        return ask()
     except Refused as refused:
         return f"refused-{refused.args[0]}"
+
+
+def display_text(words):
+    return text_or_refusal(lambda: display(graph_of(words)))
+
+
+def error_line(words):
+    """The line of the error that the words begin with: kind, leaf count, leaves."""
+    need(len(words) >= 2 and len(words) >= 2 + words[1], 9)
+    return " ".join(["error", str(words[0])] + [str(leaf) for leaf in words[2 : 2 + words[1]]])
+
+
+def error_text(words):
+    return text_or_refusal(lambda: error_line(words))
 
 
 def line(case):

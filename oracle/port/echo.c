@@ -6,8 +6,6 @@
 #include <stdio.h>
 #include <string.h>
 
-#define MOST 300000
-
 static uint16_t words[MOST];
 static uint32_t wide[MOST];
 static uint8_t bytes[MOST];

@@ -6,6 +6,9 @@
 #include <stddef.h>
 #include <stdint.h>
 
+/* No field of a case has more elements: a random table may have some 2,600 states, which 2 refuses. */
+#define MOST 1000000
+
 /* The fields of a line, which is cut up; at most `most` of them. */
 size_t fields_of(char *line, char **fields, size_t most);
 

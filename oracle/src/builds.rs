@@ -10,8 +10,8 @@ use logos_codegen::graph::GraphError;
 mod cases;
 mod list;
 
-pub use cases::random_case;
-pub use list::{k1, list};
+pub use cases::{damaged, random_case};
+pub use list::{k1, k14, list, ties};
 
 pub struct Case {
     pub table: Vec<u16>,
@@ -31,18 +31,29 @@ pub struct Built {
     pub error_words: Vec<u16>,
     /// The graph's `Display`.
     pub text: String,
+    /// A line for each error.
+    pub lines: Vec<String>,
+}
+
+/// Kind and leaves.
+fn parts(error: &GraphError) -> (u16, Vec<u16>) {
+    match error {
+        GraphError::NoUniversalStart => (0, vec![]),
+        GraphError::EmptyMatch(leaf) => (1, vec![leaf.0 as u16]),
+        GraphError::Disambiguation(leaves) => (2, leaves.iter().map(|leaf| leaf.0 as u16).collect()),
+    }
 }
 
 /// Kind, leaf count, leaves.
-fn error_words(error: &GraphError) -> Vec<u16> {
-    match error {
-        GraphError::NoUniversalStart => vec![0, 0],
-        GraphError::EmptyMatch(leaf) => vec![1, 1, leaf.0 as u16],
-        GraphError::Disambiguation(leaves) => {
-            let numbers = leaves.iter().map(|leaf| leaf.0 as u16);
-            [2, leaves.len() as u16].into_iter().chain(numbers).collect()
-        }
-    }
+pub fn error_words(error: &GraphError) -> Vec<u16> {
+    let (kind, leaves) = parts(error);
+    [&[kind, leaves.len() as u16], &leaves[..]].concat()
+}
+
+/// "one line an error, as `error 2 0 1` (kind, then leaves)", without its end.
+fn error_line(error: &GraphError) -> String {
+    let (kind, leaves) = parts(error);
+    leaves.iter().fold(format!("error {kind}"), |line, leaf| format!("{line} {leaf}"))
 }
 
 /// The build of a table that conditions 1 to 7 take, without a look at buffers.
@@ -55,6 +66,7 @@ pub fn built(table: &[u16]) -> Built {
         errors: graph.errors().count(),
         error_words: graph.errors().flat_map(error_words).collect(),
         text: graph.to_string(),
+        lines: graph.errors().map(error_line).collect(),
         graph: words,
     }
 }
@@ -120,11 +132,5 @@ pub fn printed(image: &[u8]) -> String {
         return format!("refused {number}\n");
     }
     let built = built(&case.table);
-    let mut text = built.text + "\n";
-    let mut words = built.error_words.into_iter();
-    while let (Some(kind), Some(count)) = (words.next(), words.next()) {
-        let leaves = words.by_ref().take(usize::from(count)).map(|leaf| format!(" {leaf}")).collect::<String>();
-        text += &format!("error {kind}{leaves}\n");
-    }
-    text
+    built.lines.iter().fold(built.text + "\n", |text, line| text + line + "\n")
 }

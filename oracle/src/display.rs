@@ -1,9 +1,10 @@
-//! The text of a graph: the original's `Display`, for any graph words that condition 12 takes.
+//! The text of a graph: the original's `Display`, for any graph words that condition 12 takes. And the line of an error, from its words.
 
 use crate::graphs::{graph_of_words, legal};
 use crate::words::{words_of, words_text};
 
 mod cases;
+mod errors;
 mod list;
 
 pub use cases::{damaged, free_graph, random_case, some_graph};

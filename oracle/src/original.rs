@@ -50,10 +50,20 @@ pub fn leaves(count: usize) -> Vec<Leaf> {
     vec![leaf(0, false); count]
 }
 
+/// The leaves of a table, which conditions 1 to 7 take.
+pub fn leaves_of_table(words: &[u16]) -> Vec<Leaf> {
+    let table = checked(words).expect("a legal table");
+    (0..table.leaves).map(|number| leaf(table.priority(number), table.empty_flag(number) == 1)).collect()
+}
+
+/// `Graph::new` over the table that is staged, with its leaves.
+pub fn graph_of_staged(leaves: Vec<Leaf>) -> Graph {
+    Graph::new(leaves, graph::Config { utf8_mode: true }).expect("a staged table")
+}
+
 /// `Graph::new` over the stand-in that answers from a table, which conditions 1 to 7 take.
 pub fn graph_of_table(words: &[u16]) -> Graph {
-    let table = checked(words).expect("a legal table");
-    let leaves = (0..table.leaves).map(|number| leaf(table.priority(number), table.empty_flag(number) == 1)).collect();
+    let leaves = leaves_of_table(words);
     regex_automata::table::stage(words);
-    Graph::new(leaves, graph::Config { utf8_mode: true }).expect("a staged table")
+    graph_of_staged(leaves)
 }

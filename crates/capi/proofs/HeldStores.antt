@@ -8,9 +8,9 @@ use borrow.Author.Tests.{eq-eqb, ne-eqb}
 use lib.ListN.{length, getD}
 use Rattle.lists.proofs.Elements.{length-tab, getD-tab0}
 use Rattle.classes.specs.Classes.{Class}
-use Rattle.classes.specs.declared.masks.Added.{Added}
-use Rattle.classes.specs.Masks.{storeOf, refusedWith, add, render}
-use Rattle.classes.proofs.Adding.{add-size}
+use Rattle.mask_store.specs.declared.Added.{Added}
+use Rattle.mask_store.specs.Masks.{storeOf, refusedWith, add, render}
+use Rattle.mask_store.proofs.Adding.{add-size}
 use Rattle.capi.specs.Lent.{isFlag, flagsOf, put}
 use Rattle.capi.specs.Stores.{addTo, flatAt, flat, rendered, renderTo}
 

@@ -6,8 +6,8 @@ use lib.Dec.{eqb}
 use lib.ListN.{length, getD, replicate}
 use Rattle.lists.specs.Lists.{tab}
 use Rattle.classes.specs.Classes.{Class}
-use Rattle.classes.specs.declared.masks.Added.{Added}
-use Rattle.classes.specs.Masks.{storeOf, refusedWith, add, Rendered, render}
+use Rattle.mask_store.specs.declared.Added.{Added}
+use Rattle.mask_store.specs.Masks.{storeOf, refusedWith, add, Rendered, render}
 use Rattle.capi.specs.Lent.{Put, put}
 
 -- a block of another length is no store, and gets 15

@@ -5,9 +5,11 @@
 // Each function takes its arguments apart, makes one call of a layer below, and stores the answer. Its contract is that call's definition, told in
 // document 01's numbers (`Told` of lists/specs); what is of this interface alone is defined in specs/.
 
+pub mod build;
 pub mod byte_class;
 pub mod lent;
 pub mod masks;
 pub mod priorities;
 pub mod read;
 pub mod scan;
+pub mod text;

@@ -3,11 +3,11 @@ ghost use mathlib.Core.Path.{_≡_};
 ghost use mathlib.Core.List.{[], _∷_};
 ghost use lib.ListN.{length};
 ghost use Rattle.lists.specs.Told.{Told};
-ghost use Rattle.classes.specs.Masks.{storeOf, addTold};
+ghost use Rattle.mask_store.specs.Masks.{storeOf, addTold};
 ghost use Rattle.capi.specs.Lent.{flagsOf};
 ghost use Rattle.capi.specs.Stores.{addTo, flat, renderTo};
-use classes::masks::AddAnswer;
-use classes::masks::MaskStore;
+use mask_store::AddAnswer;
+use mask_store::MaskStore;
 
 // The store of a block that has its length.
 fn store_of(tables: &[u8], count: usize) -> MaskStore
@@ -52,7 +52,7 @@ pub extern "C" fn balthwyr_add_test_to_lut(
         *number = 0;
         return 15;
     }
-    let added = classes::masks::add_by_loan(store_of(tables, *count), crate::lent::flags_of(flags));
+    let added = mask_store::add_by_loan(store_of(tables, *count), crate::lent::flags_of(flags));
     let answer = added.answer;
     let grown = added.store;
     let bytes = grown.tables;
@@ -81,7 +81,7 @@ pub extern "C" fn balthwyr_render_luts(tables: &[u8], count: usize, luts: &mut [
         return 15;
     }
     let mut refusal: u8 = 0;
-    let rendered = classes::masks::render_luts(store_of(tables, count), &mut refusal);
+    let rendered = mask_store::render_luts(store_of(tables, count), &mut refusal);
     if refusal != 0 {
         return refusal;
     }

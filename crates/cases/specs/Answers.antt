@@ -16,8 +16,9 @@ use Rattle.graph.specs.Answers.{readTold, tableRead, graphRead}
 use Rattle.graph.specs.New.{conflicts, wrote, wroteOr9, writtenOr, newOf, imageOf}
 use Rattle.plans.specs.declared.scan.Scan.{Scan}
 use Rattle.plans.specs.Scan.{fresh, gapLength, next, scanTold}
+use Rattle.edges.specs.Edges.{classTo, leadsTo, targets}
 use Rattle.display.specs.Text.{decimal}
-use Rattle.display.specs.Display.{letterOf, escaped, rangeText, classText, classTo, leadsTo, targets, firstLine, edgeLine, stateText, displayed, lineOf, conflictLine}
+use Rattle.display.specs.Display.{letterOf, escaped, rangeText, classText, firstLine, edgeLine, stateText, displayed, lineOf, conflictLine}
 use Rattle.print.specs.Print.{space, printedBuild, refusedLine, printed}
 
 abbrev pub numbers : Told → List ℕ

@@ -5,13 +5,3 @@ pub mod Answers
 pub mod FlagPass
 pub mod Joining
 pub mod Listed
-pub mod Bits
-pub mod Numbers
-pub mod Search
-pub mod MaskLaws
-pub mod Growth
-pub mod Adding
-pub mod Several
-pub mod Writing
-pub mod Luts
-pub mod Values

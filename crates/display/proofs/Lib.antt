@@ -1,7 +1,6 @@
 pub mod Runs
 pub mod Decimals
 pub mod Escapes
-pub mod Rows
 pub mod Joins
 pub mod Bars
 pub mod Lines

@@ -8,7 +8,8 @@ use native.Mathlib.Omega.{arith}
 use Rattle.lists.specs.Lists.{tab, those}
 use Rattle.rules.specs.Graph.{State}
 use Rattle.display.specs.Text.{bytes, after}
-use Rattle.display.specs.Display.{classTo, leadsTo, targets, edgeLine, edgeLines}
+use Rattle.display.specs.Display.{edgeLine, edgeLines}
+use Rattle.edges.specs.Edges.{classTo, leadsTo, targets}
 
 module _ (st : State) where
   abbrev lineTo : ℕ → List ℕ

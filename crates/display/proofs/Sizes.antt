@@ -15,7 +15,8 @@ use Rattle.classes.specs.Classes.{Class}
 use Rattle.rules.specs.Graph.{State, stateOf, orNone, graphFrom, graphFits}
 use Rattle.rules.proofs.Taken.{taken-few, taken-target}
 use Rattle.display.specs.Text.{bytes, decimal, after}
-use Rattle.display.specs.Display.{bytesOf, classTo, leadsTo, classText, targets, markText, firstLine, edgeLine, edgeLines, endLines, stateText, displayed}
+use Rattle.display.specs.Display.{classText, markText, firstLine, edgeLine, edgeLines, endLines, stateText, displayed}
+use Rattle.edges.specs.Edges.{bytesOf, classTo, leadsTo, targets}
 use Rattle.display.proofs.Decimals.{below-thousand, below-ten-thousand}
 use Rattle.display.proofs.ClassSize.{class-size}
 use Rattle.display.proofs.Joins.{joined-after}

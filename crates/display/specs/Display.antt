@@ -1,16 +1,17 @@
 -- The text of a graph, as Rust's `Display` of `Graph`, `StateData`, `ByteClass` and `State` gives it, and the lines of the conflicts (document 01, K1 and
 -- the paragraph after it). Definitions only.
-use mathlib.Core.Bool.{Bool, cond, _&&_, _||_}
+use mathlib.Core.Bool.{cond, _&&_, _||_}
 use mathlib.Core.List.{List, [], _∷_, _++_, map}
 use mathlib.Core.Option.{Option, none, some}
 use Prim.Native.Nat.{ℕ, _+_, _/_, _%_}
 use Prim.Native.Char.{code}
 use lib.Dec.{eqb, leb, ltb}
 use lib.ListN.{length, getD, take, drop}
-use Rattle.lists.specs.Lists.{below, anyL, those, eqOption}
+use Rattle.lists.specs.Lists.{below}
 use Rattle.rules.specs.Graph.{State, Graph, stateOf}
 use Rattle.rules.specs.Build.{Error, errorWords}
 use Rattle.classes.specs.Classes.{Class, ranges}
+use Rattle.edges.specs.Edges.{classTo, targets}
 use Rattle.display.specs.Text.{bytes, one, decimal, joined}
 
 -- ---- a byte: "`escape_default` keeps bytes 32 to 126 but quotes and backslash, uses `\t \r \n \' \" \\`, else `\x` and two lower-case hex digits"
@@ -39,23 +40,6 @@ rangeText first last = cond (eqb first last) (escaped first) (escaped first ++ (
 
 unfoldable pub classText : Class → List ℕ
 classText c = joined (bytes "|") (map (λ r. rangeText (r .first) (r .last)) (ranges c))
-
--- ---- the byte edges of a state
-
-abbrev pub bytesOf : State → List (Option ℕ)
-bytesOf st = take 256 (st .steps)
-
--- the class of the edge to u: the bytes that lead there
-unfoldable pub classTo : State → ℕ → Class
-classTo st u = map (eqOption (some u)) (bytesOf st)
-
--- a byte edge leads to u
-unfoldable pub leadsTo : State → ℕ → Bool
-leadsTo st u = anyL (eqOption (some u)) (bytesOf st)
-
--- the targets of its edges, ascending, in a graph of n states
-unfoldable pub targets : ℕ → State → List ℕ
-targets n st = those (leadsTo st) (below n)
 
 -- ---- a state: its marks, each class and target, EOI; one line each
 

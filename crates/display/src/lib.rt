@@ -17,7 +17,6 @@ ghost use Rattle.display.specs.Display.{stateText};
 ghost use Rattle.display.specs.Answers.{displayCall, lineCall};
 
 pub mod byte_class;
-pub mod edges;
 pub mod errors;
 pub mod graph;
 pub mod put;

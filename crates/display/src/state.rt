@@ -8,7 +8,6 @@ ghost use Rattle.rules.specs.Graph.{stateOf, orNone, graphFrom, graphFits};
 ghost use Rattle.display.specs.Text.{after, bytes, Wrote, Counts};
 ghost use Rattle.display.specs.Display.{markText, firstLine, edgeLine, edgeLines, endLines, stateText};
 use crate::byte_class;
-use crate::edges;
 use crate::put;
 
 // A mark: its name and its leaf; nothing for 255.

@@ -8,14 +8,10 @@ use lib.ListN.{length, getD, drop}
 use Rattle.rules.specs.Table.{tableOf, refusal}
 use Rattle.rules.specs.Graph.{Graph, graphBuffer, graphFrom}
 use Rattle.rules.specs.Build.{reached, restrict, wholeGraph, withEarly, withCleared, unpruned, pruned, merged}
-use Rattle.rules.proofs.Fits.{Fits, pruned-fits, pruned-few, merged-fits, merged-few}
+use Rattle.rules.proofs.Fits.{Fits, first-fits, early-fits, cleared-fits, pruned-fits, pruned-few, merged-fits, merged-few}
 use Rattle.rules.proofs.Marks.{early-length, cleared-length}
-use Rattle.rules.proofs.Prune.{pruned-root}
-use Rattle.rules.proofs.Reached.{un-root-within}
-use Rattle.rules.proofs.Shape.{few-states, few-leaves, legal-shaped}
+use Rattle.rules.proofs.Shape.{few-states, few-leaves}
 use Rattle.table.specs.Renumbering.{firstGraph}
-use Rattle.table.proofs.FirstFits.{first-fits}
-use Rattle.rewrite.proofs.Steps.{early-fits, cleared-fits}
 use Rattle.graph.proofs.Stages.{Stage, stage-next}
 
 -- words that a rule has written over the words w
@@ -44,10 +40,6 @@ module _ (table : List ℕ) (legal : refusal table ≡ 0) (start : ℕ) (st : ta
   pub first-stage : (w : List ℕ) → w ≡ graphBuffer n first ++ drop (2 + 258 * n) found → At first w
   first-stage w e = record { fits = first-fits table legal start st; holds = e }
 
-  rooted : un .root < length (un .states)
-  unfolding unpruned
-  rooted = un-root-within (tableOf table) (legal-shaped table legal) start st
-
   -- after rules 5 and 6
   unpruned-stage : (w₁ w₂ w₃ : List ℕ) → At first w₁ → After withEarly w₁ w₂ → After withCleared w₂ w₃ → At un w₃
   unpruned-stage w₁ w₂ w₃ s e c =
@@ -61,6 +53,5 @@ module _ (table : List ℕ) (legal : refusal table ≡ 0) (start : ℕ) (st : ta
   unfolding unpruned
   composed w₁ w₂ w₃ w₄ w₅ s e c p q =
       let at = unpruned-stage w₁ w₂ w₃ s e c in
-      let kept : At (pruned un) w₄ = next un pruned w₃ w₄ at p (pruned-fits m n un (at .fits) rooted) (pruned-few m n un (at .fits) rooted) in
-      let root : pruned un .root < length (pruned un .states) = pruned-root un rooted in
-      next (pruned un) (λ g. merged g .graph) w₄ w₅ kept q (merged-fits m n (pruned un) (kept .fits) root) (merged-few m n (pruned un) (kept .fits) root) .holds
+      let kept : At (pruned un) w₄ = next un pruned w₃ w₄ at p (pruned-fits m n un (at .fits)) (pruned-few m n un (at .fits)) in
+      next (pruned un) (λ g. merged g .graph) w₄ w₅ kept q (merged-fits m n (pruned un) (kept .fits)) (merged-few m n (pruned un) (kept .fits)) .holds

@@ -10,3 +10,4 @@ pub mod Stages
 pub mod Written
 pub mod Composed
 pub mod Building
+pub mod Images

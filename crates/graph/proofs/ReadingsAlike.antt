@@ -1,18 +1,20 @@
--- Of every clean table and every text: what `read_table` answers of the table, `read_graph` answers of the words that the build returned.
--- Assumes nothing.
+-- Of every clean table and every text: what `read_table` answers of the table, `read_graph` answers of the words that the build returned. The same of
+-- a table that is clean but for ties: a state whose leaves tie has no leaf in either reading. Assumes nothing.
 use mathlib.Core.Path.{_≡_, sym, ap, _∙_}
 use mathlib.Core.Bool.{true}
-use mathlib.Core.List.{List, _++_}
+use mathlib.Core.List.{List, [], _++_}
 use Prim.Native.Nat.{ℕ}
 use lib.ListN.{length}
+use Rattle.lists.specs.Told.{Told}
 use Rattle.rules.specs.Table.{tableOf, refusal}
 use Rattle.rules.specs.Graph.{graphFrom, graphFits}
-use Rattle.rules.specs.Read.{Bytes, Clean, Reading}
-use Rattle.rules.proofs.Promises.{built-taken, words-alike}
+use Rattle.rules.specs.Build.{emptyLeaves}
+use Rattle.rules.specs.Read.{Bytes, Orderly, Clean, Reading}
+use Rattle.rules.proofs.Promises.{built-taken, clean-no-empty, words-alike}
 use Rattle.graph.specs.declared.read.Read.{Read}
 use Rattle.graph.specs.declared.new.Counts.{Counts}
 use Rattle.graph.specs.declared.new.Answer.the-variants.{Built as Made}
-use Rattle.graph.specs.Answers.{reading, tableRead, graphRead}
+use Rattle.graph.specs.Answers.{reading, readTold, tableRead, graphRead}
 use Rattle.graph.specs.New.{newOf}
 use Rattle.graph.proofs.Answering.{graph-answered, table-answered}
 use Rattle.graph.proofs.Outcomes.{answered, words-first}
@@ -25,9 +27,18 @@ module _ (table graph errors : List ℕ) (c : Counts) (made : newOf table graph 
   pub returned-taken : graphFits (newOf table graph errors .graph) ≡ true
   returned-taken = ap graphFits (words-first table graph errors c made) ∙ built-taken table legal _
 
-  pub readings-alike : Clean (tableOf table) → (text : List ℕ) → Bytes text → tableRead table text ≡ graphRead (newOf table graph errors .graph) text
-  readings-alike clean text bytes =
+  pub tied-alike : Orderly (tableOf table) → emptyLeaves (tableOf table) ≡ [] → (text : List ℕ) → Bytes text
+      → tableRead table text ≡ graphRead (newOf table graph errors .graph) text
+  tied-alike orderly no-empty text bytes =
       table-answered table text legal
-      ∙ ap reading (words-alike table legal clean _ text bytes)
+      ∙ ap reading (words-alike table legal orderly no-empty _ text bytes)
       ∙ sym (graph-answered _ text (built-taken table legal _))
       ∙ ap (λ (w : List ℕ). graphRead w text) (sym (words-first table graph errors c made))
+
+  pub readings-alike : Clean (tableOf table) → (text : List ℕ) → Bytes text → tableRead table text ≡ graphRead (newOf table graph errors .graph) text
+  readings-alike clean text bytes = tied-alike (clean .orderly) (clean-no-empty (tableOf table) clean) text bytes
+
+  -- and so in document 01's numbers
+  pub told-alike : Clean (tableOf table) → (text : List ℕ) → Bytes text
+      → readTold (tableRead table text) ≡ readTold (graphRead (newOf table graph errors .graph) text)
+  told-alike clean text bytes = ap readTold (readings-alike clean text bytes)

@@ -8,17 +8,23 @@ use Prim.Native.Nat.{ℕ, zero, suc, _+_, _-_, _*_, _/_, _%_, _≤_, _<_}
 use native.Mathlib.Omega.{arith}
 use native.Mathlib.Numerals.{add-one}
 use borrow.Author.Tests.{eq-eqb, ne-eqb}
-use lib.ListN.{length, getD, drop, length-map}
-use Rattle.lists.specs.Lists.{pieces}
-use Rattle.lists.proofs.Pieces.{pieces-length}
+use lib.ListN.{length, getD, drop}
 use Rattle.rules.specs.Graph.{to, acceptOf, orNone, graphFrom, graphFits}
 use Rattle.rules.specs.Read.{Reading, late, mark, onward, walk, graphWalker, readGraph}
+use Rattle.graph.specs.Answers.{recorded}
 use Rattle.rules.proofs.Walks.{walk-at, walk-done}
 use Rattle.rules.proofs.Views.{out-quiet}
 use Rattle.rules.proofs.Taken.{taken-long, taken-target}
-use Rattle.rules.proofs.Flat.{from-to, from-accept, from-early}
+use Rattle.rules.proofs.Flat.{from-to, from-accept, from-early, from-length}
+use Rattle.rules.proofs.Nones.{or-none, or-number}
 
 -- ---- records
+
+pub recorded-none : (l k : ℕ) → l ≡ 255 → recorded l k ≡ none
+recorded-none l k e = rw (eq-eqb l 255 e)
+
+pub recorded-some : (l k : ℕ) → (l ≡ 255 → ⊥) → recorded l k ≡ some (record { leaf = l; end = k })
+recorded-some l k n = rw (ne-eqb l 255 n)
 
 pub late-none : (a k : ℕ) (r : Reading) → a ≡ 255 → late (orNone 255 a) k r ≡ r
 late-none a k r e = rw (eq-eqb a 255 e)
@@ -42,12 +48,6 @@ mark-some e a k r n = rw (ne-eqb e 255 n)
 
 -- ---- the walk that is left
 
-pub is-none : (word x : ℕ) → x ≡ word → orNone word x ≡ none
-is-none word x e = rw (eq-eqb x word e)
-
-pub is-some : (word x : ℕ) → (x ≡ word → ⊥) → orNone word x ≡ some x
-is-some word x n = rw (ne-eqb x word n)
-
 -- the walk that is left, from state s after k bytes with the record r
 unfoldable pub rest : List ℕ → List ℕ → ℕ → ℕ → Reading → Reading
 rest g text s k r = walk (graphWalker (graphFrom g)) s k r (drop k text)
@@ -68,12 +68,12 @@ module _ (g text : List ℕ) (long : 2 + 258 * getD g 0 0 ≤ length g) (s k : �
     at o e = walk-at (graphWalker (graphFrom g)) s k r text more ∙ (λ i. onward (enter i) (λ u. walk (graphWalker (graphFrom g)) u (suc k) (enter i) (drop (suc k) text)) (e i))
 
     pub turn-stops : getD g (2 + 258 * s + getD text k 0) 0 ≡ 65535 → rest g text s k r ≡ q
-    turn-stops e = at none (from-to g long s h (getD text k 0) (omega arith) ∙ is-none 65535 _ e)
+    turn-stops e = at none (from-to g long s h (getD text k 0) (omega arith) ∙ or-none 65535 _ e)
 
     pub turn-goes : (getD g (2 + 258 * s + getD text k 0) 0 ≡ 65535 → ⊥) → rest g text s k r ≡ rest g text (getD g (2 + 258 * s + getD text k 0) 0) (k + 1) q
     unfolding rest
     turn-goes n =
-        at (some (getD g (2 + 258 * s + getD text k 0) 0)) (from-to g long s h (getD text k 0) (omega arith) ∙ is-some 65535 _ n)
+        at (some (getD g (2 + 258 * s + getD text k 0) 0)) (from-to g long s h (getD text k 0) (omega arith) ∙ or-number 65535 _ n)
         ∙ ap (λ (x : ℕ). walk (graphWalker (graphFrom g)) (getD g (2 + 258 * s + getD text k 0) 0) x q (drop x text)) (sym (add-one k))
 
   module _ (done : length text ≤ k) where
@@ -82,24 +82,20 @@ module _ (g text : List ℕ) (long : 2 + 258 * getD g 0 0 ≤ length g) (s k : �
     end-at o e = walk-done (graphWalker (graphFrom g)) s k r text done ∙ (λ i. onward (enter i) (λ u. late (acceptOf (graphFrom g) u) (suc k) (enter i)) (e i))
 
     pub end-stops : getD g (2 + 258 * s + 256) 0 ≡ 65535 → rest g text s k r ≡ q
-    end-stops e = end-at none (from-to g long s h 256 (omega arith) ∙ is-none 65535 _ e)
+    end-stops e = end-at none (from-to g long s h 256 (omega arith) ∙ or-none 65535 _ e)
 
     pub end-goes : (t : ℕ) → getD g (2 + 258 * s + 256) 0 ≡ t → (t ≡ 65535 → ⊥) → t < getD g 0 0
         → rest g text s k r ≡ late (orNone 255 (getD g (2 + 258 * t + 257) 0 % 256)) (suc k) q
     end-goes t e n b =
-        end-at (some t) (from-to g long s h 256 (omega arith) ∙ ap (orNone 65535) e ∙ is-some 65535 t n)
+        end-at (some t) (from-to g long s h 256 (omega arith) ∙ ap (orNone 65535) e ∙ or-number 65535 t n)
         ∙ ap (λ (o : Option ℕ). late o (suc k) q) (from-accept g long t b)
-
-count-is : (g : List ℕ) → length (graphFrom g .states) ≡ getD g 0 0
-unfolding graphFrom
-count-is g = length-map (pieces 258 (getD g 0 0) (drop 2 g)) _ ∙ pieces-length 258 (getD g 0 0) (drop 2 g)
 
 pub no-states : (g text : List ℕ) → getD g 0 0 ≡ 0 → readGraph (graphFrom g) text ≡ none
 unfolding readGraph
 no-states g text e = out-quiet (graphFrom g) (graphFrom g .root) (few g e) .mute 0 none text
   where
     few : (g : List ℕ) → getD g 0 0 ≡ 0 → length (graphFrom g .states) ≤ graphFrom g .root
-    few g e = let l = count-is g in omega arith
+    few g e = let l = from-length g in omega arith
 
 -- the same by the numbers that the code holds: m the marks word, b the byte, t the target, R the reading
 module _ (g text : List ℕ) (taken : graphFits g ≡ true) (s k m t : ℕ) (r q R : Reading) (h : s < getD g 0 0) (inv : rest g text s k r ≡ R)

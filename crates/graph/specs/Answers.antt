@@ -1,5 +1,5 @@
 -- What the calls of this crate answer, by the definitions of `rules`. Definitions only.
-use mathlib.Core.Bool.{Bool, true, false}
+use mathlib.Core.Bool.{true, false, cond}
 use mathlib.Core.List.{List, [], _∷_}
 use mathlib.Core.Option.{none, some}
 use Prim.Native.Nat.{ℕ}
@@ -11,10 +11,9 @@ use Rattle.rules.specs.Read.{Reading, readGraph, readTable}
 use Rattle.graph.specs.declared.read.Read.{Read}
 use Rattle.graph.specs.declared.read.Read.the-variants.{Found, Nothing, Refused}
 
--- a reading, by whether there is one, its leaf and its end
-abbrev pub recorded : Bool → ℕ → ℕ → Reading
-recorded false leaf end = none
-recorded true leaf end = some (record { leaf = leaf; end = end })
+-- a reading, by its leaf, 255 if there is none, and its end
+abbrev pub recorded : ℕ → ℕ → Reading
+recorded leaf end = cond (eqb leaf 255) none (some (record { leaf = leaf; end = end }))
 
 -- ---- the readings
 

@@ -14,16 +14,15 @@ pub enum Read {
     Refused(u8),
 }
 
-// The last record of a walk.
+// The last record of a walk; leaf 255 if there is none. Two words and no flag beside them, so that a walk holds it in registers.
 pub struct Record {
-    pub found: bool,
     pub leaf: usize,
     pub end: usize,
 }
 
 // The record at a state of that accept, entered by k byte steps: the match is one byte late.
 pub fn accepted(accept: usize, k: usize, r: Record) -> Record
-    ensures { λ q. ⌜ recorded (q .found) (q .leaf) (q .end) ≡ late (orNone 255 accept) k (recorded (r .found) (r .leaf) (r .end)) ⌝ }
+    ensures { λ q. ⌜ recorded (q .leaf) (q .end) ≡ late (orNone 255 accept) k (recorded (r .leaf) (r .end)) ⌝ }
 {
     if accept == 255 {
         return r;
@@ -32,7 +31,6 @@ pub fn accepted(accept: usize, k: usize, r: Record) -> Record
         return r;
     }
     Record {
-        found: true,
         leaf: accept,
         end: k - 1,
     }
@@ -40,14 +38,13 @@ pub fn accepted(accept: usize, k: usize, r: Record) -> Record
 
 // The record at a state with these marks, entered by k byte steps.
 fn entered(marks: usize, k: usize, r: Record) -> Record
-    ensures { λ q. ⌜ recorded (q .found) (q .leaf) (q .end) ≡ mark (orNone 255 (marks / 256)) (orNone 255 (marks % 256)) k (recorded (r .found) (r .leaf) (r .end)) ⌝ }
+    ensures { λ q. ⌜ recorded (q .leaf) (q .end) ≡ mark (orNone 255 (marks / 256)) (orNone 255 (marks % 256)) k (recorded (r .leaf) (r .end)) ⌝ }
 {
     let early = marks / 256;
     if early == 255 {
         return accepted(marks % 256, k, r);
     }
     Record {
-        found: true,
         leaf: early,
         end: k,
     }
@@ -55,13 +52,12 @@ fn entered(marks: usize, k: usize, r: Record) -> Record
 
 // The record at a state of that accept, entered by the end step after k byte steps: only accept is read there.
 pub fn left(accept: usize, k: usize, r: Record) -> Record
-    ensures { λ q. ⌜ recorded (q .found) (q .leaf) (q .end) ≡ late (orNone 255 accept) (suc k) (recorded (r .found) (r .leaf) (r .end)) ⌝ }
+    ensures { λ q. ⌜ recorded (q .leaf) (q .end) ≡ late (orNone 255 accept) (suc k) (recorded (r .leaf) (r .end)) ⌝ }
 {
     if accept == 255 {
         return r;
     }
     Record {
-        found: true,
         leaf: accept,
         end: k,
     }
@@ -78,13 +74,9 @@ pub fn byte(text: &[u8], k: usize) -> usize
 // The last record of the walk of a text over graph words that 12 takes.
 pub fn walk(graph: &[u16], text: &[u8]) -> Record
     requires { ⌜ graphFits (now graph) ≡ true ⌝ }
-    ensures { λ q. ⌜ recorded (q .found) (q .leaf) (q .end) ≡ readGraph (graphFrom (now (graph .entry))) (now (text .entry)) ⌝ }
+    ensures { λ q. ⌜ recorded (q .leaf) (q .end) ≡ readGraph (graphFrom (now (graph .entry))) (now (text .entry)) ⌝ }
 {
-    let mut r = Record {
-        found: false,
-        leaf: 0,
-        end: 0,
-    };
+    let mut r = Record { leaf: 255, end: 0 };
     if words::word(graph, 0) == 0 {
         return r;
     }
@@ -113,12 +105,12 @@ pub fn walk(graph: &[u16], text: &[u8]) -> Record
 
 // A record as an answer.
 pub fn answer(r: Record) -> Read
-    ensures { λ q. ⌜ q ≡ reading (recorded (r .found) (r .leaf) (r .end)) ⌝ }
+    ensures { λ q. ⌜ q ≡ reading (recorded (r .leaf) (r .end)) ⌝ }
 {
-    if r.found {
-        Read::Found(r.leaf, r.end)
-    } else {
+    if r.leaf == 255 {
         Read::Nothing
+    } else {
+        Read::Found(r.leaf, r.end)
     }
 }
 

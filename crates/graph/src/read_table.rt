@@ -21,13 +21,9 @@ fn step(table: &[u16], s: usize, c: usize) -> usize
 // The last record of the walk of a text over a legal table's words.
 fn walk(table: &[u16], text: &[u8]) -> Record
     requires { ⌜ refusal (now table) ≡ 0 ⌝ }
-    ensures { λ q. ⌜ recorded (q .found) (q .leaf) (q .end) ≡ readTable (tableOf (now (table .entry))) (now (text .entry)) ⌝ }
+    ensures { λ q. ⌜ recorded (q .leaf) (q .end) ≡ readTable (tableOf (now (table .entry))) (now (text .entry)) ⌝ }
 {
-    let mut r = Record {
-        found: false,
-        leaf: 0,
-        end: 0,
-    };
+    let mut r = Record { leaf: 255, end: 0 };
     let mut s = words::table::start(table);
     if s == 65535 {
         return r;

@@ -5,10 +5,10 @@ use mathlib.Core.List.{List, [], _∷_}
 use Prim.Native.Nat.{ℕ, zero, suc, _-_, _≤_, _<_, zero-le}
 use native.Mathlib.Nat.{not-suc-le-zero, le-of-suc-le-suc}
 use native.Mathlib.Omega.{arith}
-use borrow.Author.Tests.{ltb-true, leb-true, le-leb}
+use borrow.Author.Tests.{ltb-true, leb-true, lt-ltb, le-leb}
 use lib.Dec.{ltb, leb}
 use lib.ListN.{length, getD}
-use Rattle.lists.specs.Lists.{allL, those}
+use Rattle.lists.specs.Lists.{tab, below, allL, those}
 use Rattle.lists.proofs.Bools.{Is, is, yes-is, no-is, and-both, and-intro}
 use Rattle.lists.proofs.Elements.{all-at, eqb-sound}
 use Rattle.lists.proofs.Distinct.{those-keep}
@@ -23,6 +23,18 @@ rising-at (x ∷ l) (rising-cons a r) zero zero h b = absurd (not-suc-le-zero h)
 rising-at (x ∷ l) (rising-cons a r) zero (suc j) h b = ltb-true x (getD l j 0) (all-at (ltb x) l j 0 a (le-of-suc-le-suc b))
 rising-at (x ∷ l) (rising-cons a r) (suc i) zero h b = absurd (not-suc-le-zero h)
 rising-at (x ∷ l) (rising-cons a r) (suc i) (suc j) h b = rising-at l r i j (le-of-suc-le-suc h) (le-of-suc-le-suc b)
+
+-- the numbers from i on
+above-tab : (x i n : ℕ) → x < i → allL (ltb x) (tab i n (λ k. k)) ≡ true
+above-tab x i zero h = refl
+above-tab x i (suc n) h = and-intro _ _ (lt-ltb x i h) (above-tab x (suc i) n (omega arith))
+
+rising-tab : (i n : ℕ) → Rising (tab i n (λ k. k))
+rising-tab i zero = rising-nil
+rising-tab i (suc n) = rising-cons (above-tab i (suc i) n (omega arith)) (rising-tab (suc i) n)
+
+pub rising-below : (n : ℕ) → Rising (below n)
+rising-below n = rising-tab 0 n
 
 pub rising-those : (p : ℕ → Bool) (l : List ℕ) → Rising l → Rising (those p l)
 rising-those p [] r = rising-nil

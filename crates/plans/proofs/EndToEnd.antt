@@ -1,5 +1,6 @@
 -- A fresh scan of a text of length n has answered ended by call n + 1, and its tokens and gaps run end to end from 0 to n. Assumes nothing.
 use mathlib.Core.Path.{_≡_, refl, sym, ap, subst, _∙_}
+use mathlib.Core.Bool.{true}
 use mathlib.Core.List.{List, [], _∷_}
 use mathlib.Core.Logic.{_⊎_, inl, inr, ⊎-elim}
 use Prim.Native.Nat.{ℕ, zero, suc, _+_, _≤_, _<_}
@@ -7,13 +8,14 @@ use native.Mathlib.Nat.{eq-or-lt-of-le}
 use native.Mathlib.Omega.{arith}
 use lib.ListN.{length, drop}
 use Rattle.lists.proofs.Bools.{Is, is, yes-is, no-is}
-use Rattle.rules.specs.Graph.{Graph}
+use Rattle.rules.specs.Graph.{Graph, graphFrom, graphFits}
 use Rattle.rules.specs.Read.{readGraph}
 use Rattle.plans.specs.declared.scan.Answer.{Answer}
 use Rattle.plans.specs.declared.scan.Entry.{Entry}
 use Rattle.plans.specs.declared.scan.Scan.{Scan}
-use Rattle.plans.specs.Scan.{readingAt, hasEnded, fresh, entryOf, scannedBy}
-use Rattle.plans.specs.List.{Listing, oneMore, listFor, EndToEnd, no-more, token-first, gap-first}
+use Rattle.plans.specs.declared.scan.Scanned.{Scanned}
+use Rattle.plans.specs.Scan.{readingAt, hasEnded, fresh, entryOf, scannedBy, scanOf, next}
+use Rattle.plans.specs.List.{Listing, goOn, oneMore, listFor, callsFor, EndToEnd, no-more, token-first, gap-first}
 use Rattle.plans.proofs.Scans.{Moves, entry-moves}
 use Rattle.plans.proofs.Filling.{list-ends, list-goes}
 
@@ -49,3 +51,19 @@ from-offset g text (suc k) o h few = ⊎-elim at-end (inside (λ e a b. from-off
 
 pub scan-ends-by : (g : Graph) (text : List ℕ) → Ends 0 (length text) (listFor g text (length text + 1) fresh)
 scan-ends-by g text = from-offset g text (length text + 1) 0 (omega arith) (omega arith)
+
+-- ---- the same of the calls on graph words that 12 takes
+
+module _ (graph : List ℕ) (taken : graphFits graph ≡ true) (text : List ℕ) where
+  next-scans : (scan : Scan) → next graph text scan ≡ scanOf (graphFrom graph) text scan
+  unfolding next
+  next-scans scan = rw (taken, next)
+
+  calls-list : (k : ℕ) (scan : Scan) → callsFor graph text k scan ≡ listFor (graphFrom graph) text k scan
+  calls-list zero scan = refl
+  calls-list (suc k) scan =
+      ap (λ (a : Scanned). goOn (λ s. callsFor graph text k s) (a .answer) (a .scan)) (next-scans scan)
+      ∙ (λ i. goOn (λ s. calls-list k s i) (scanOf (graphFrom graph) text scan .answer) (scanOf (graphFrom graph) text scan .scan))
+
+  pub calls-end-by : Ends 0 (length text) (callsFor graph text (length text + 1) fresh)
+  calls-end-by = subst (λ (l : Listing). Ends 0 (length text) l) (sym (calls-list (length text + 1) fresh)) (scan-ends-by (graphFrom graph) text)

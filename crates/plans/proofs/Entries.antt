@@ -1,6 +1,6 @@
 -- A scan's answer by its place, and the token or gap that a walk's last record gives. Assumes nothing.
 use mathlib.Core.Path.{_≡_, refl, sym, ap, subst, _∙_}
-use mathlib.Core.Bool.{Bool, true, false}
+use mathlib.Core.Bool.{true, false}
 use mathlib.Core.List.{List}
 use mathlib.Core.Option.{none, some}
 use Prim.Native.Nat.{ℕ, _+_, _-_, _≤_, _<_}
@@ -11,6 +11,7 @@ use lib.Seq.{take-all}
 use Rattle.rules.specs.Graph.{Graph, graphFrom, graphFits}
 use Rattle.rules.specs.Read.{Found, Reading, readGraph}
 use Rattle.graph.specs.Answers.{recorded}
+use Rattle.graph.proofs.Turn.{recorded-none, recorded-some}
 use Rattle.plans.specs.declared.scan.Answer.the-variants.{Token, Gap, Ended, Refused}
 use Rattle.plans.specs.declared.scan.Entry.{Entry}
 use Rattle.plans.specs.declared.scan.Place.{Place}
@@ -23,26 +24,27 @@ use Rattle.plans.proofs.Scans.{Upto, found, reads-upto}
 pub part-is : (text : List ℕ) (at : ℕ) → take (length text - at) (drop at text) ≡ drop at text
 part-is text at = take-all (length text - at) (drop at text) (let l = length-drop at text in omega arith)
 
-module _ (text : List ℕ) (at : ℕ) (R : Reading) (is : Bool) (leaf end : ℕ) (e : recorded is leaf end ≡ R) where
-  as-recorded : (b : Bool) → is ≡ b → entryOf text at R ≡ entryOf text at (recorded b leaf end)
-  as-recorded b q = ap (entryOf text at) (sym e) ∙ ap (λ (x : Bool). entryOf text at (recorded x leaf end)) q
+module _ (text : List ℕ) (at : ℕ) (R : Reading) (leaf end : ℕ) (e : recorded leaf end ≡ R) where
+  pub gives-none : leaf ≡ 255 → entryOf text at R ≡ gapAt text at
+  gives-none q = ap (entryOf text at) (sym e ∙ recorded-none leaf end q)
 
-  pub gives-none : is ≡ false → entryOf text at R ≡ gapAt text at
-  gives-none q = as-recorded false q
+  module _ (n : leaf ≡ 255 → ⊥) where
+    as-found : entryOf text at R ≡ entryOf text at (some (record { leaf = leaf; end = end }))
+    as-found = ap (entryOf text at) (sym e ∙ recorded-some leaf end n)
 
-  pub gives-empty : is ≡ true → end ≡ 0 → entryOf text at R ≡ gapAt text at
-  gives-empty q z = as-recorded true q ∙ rw (eq-eqb end 0 z)
+    pub gives-empty : end ≡ 0 → entryOf text at R ≡ gapAt text at
+    gives-empty z = as-found ∙ rw (eq-eqb end 0 z)
 
-  pub gives-token : is ≡ true → (end ≡ 0 → ⊥) → entryOf text at R ≡ record { token = true; leaf = leaf; end = at + end }
-  gives-token q n = as-recorded true q ∙ rw (ne-eqb end 0 n)
+    pub gives-token : (end ≡ 0 → ⊥) → entryOf text at R ≡ record { token = true; leaf = leaf; end = at + end }
+    gives-token z = as-found ∙ rw (ne-eqb end 0 z)
 
 -- a token ends in the text
-pub token-within : (g : Graph) (text : List ℕ) (at leaf end : ℕ) (is : Bool) → at ≤ length text → recorded is leaf end ≡ readGraph g (drop at text) → is ≡ true
+pub token-within : (g : Graph) (text : List ℕ) (at leaf end : ℕ) → at ≤ length text → recorded leaf end ≡ readGraph g (drop at text) → (leaf ≡ 255 → ⊥)
     → at + end ≤ length text
-token-within g text at leaf end is h e q =
-    go (subst (λ (r : Reading). Upto (length (drop at text)) r) (sym e ∙ ap (λ (b : Bool). recorded b leaf end) q) (reads-upto g (drop at text)))
+token-within g text at leaf end h e n =
+    go (subst (λ (r : Reading). Upto (length (drop at text)) r) (sym e ∙ recorded-some leaf end n) (reads-upto g (drop at text)))
   where
-    go : Upto (length (drop at text)) (recorded true leaf end) → at + end ≤ length text
+    go : Upto (length (drop at text)) (some (record { leaf = leaf; end = end })) → at + end ≤ length text
     go (found k) = let l = length-drop at text in omega arith
 
 -- ---- an entry as an answer

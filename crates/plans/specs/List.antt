@@ -12,7 +12,7 @@ use Rattle.plans.specs.declared.scan.Entry.{Entry}
 use Rattle.plans.specs.declared.list.ListAnswer.{ListAnswer}
 use Rattle.plans.specs.declared.list.ListAnswer.the-variants.{Listed as Entries, Refused as NoList}
 use Rattle.plans.specs.declared.list.Listed.{Listed}
-use Rattle.plans.specs.Scan.{readingAt, scanOf}
+use Rattle.plans.specs.Scan.{readingAt, scanOf, next}
 
 -- the words of an entry: start, end, and leaf or 65,535
 abbrev pub entryWords : Answer → List ℕ
@@ -44,6 +44,11 @@ goOn more (Refused n) scan = record { entries = []; scan = scan }
 abbrev pub listFor : Graph → List ℕ → ℕ → Scan → Listing
 listFor g text zero scan = record { entries = []; scan = scan }
 listFor g text (suc k) scan = let a = scanOf g text scan in goOn (λ s. listFor g text k s) (a .answer) (a .scan)
+
+-- the same of calls of `next`, on graph words
+abbrev pub callsFor : List ℕ → List ℕ → ℕ → Scan → Listing
+callsFor graph text zero scan = record { entries = []; scan = scan }
+callsFor graph text (suc k) scan = let a = next graph text scan in goOn (λ s. callsFor graph text k s) (a .answer) (a .scan)
 
 -- tokens and gaps that run end to end from a to b, none of them empty
 pub data EndToEnd : ℕ → ℕ → List Answer → Type 0 where

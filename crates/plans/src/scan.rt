@@ -57,7 +57,7 @@ pub fn read_entry(graph: &[u16], text: &[u8], at: usize) -> Entry
     ensures { λ r. ⌜ r ≡ entryOf (now (text .entry)) at (readGraph (graphFrom (now (graph .entry))) (drop at (now (text .entry)))) ⌝ }
 {
     let r = graph::read::walk(graph, &text[at..]);
-    if !r.found {
+    if r.leaf == 255 {
         return gap(text, at);
     }
     if r.end == 0 {

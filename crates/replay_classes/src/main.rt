@@ -1,5 +1,5 @@
-// Replays the stored answers on classes and mask stores (docs/ORACLE.md, "classes.bin"): every value is compared with what crate `classes`
-// answers.
+// Replays the stored answers on classes and mask stores (docs/ORACLE.md, "classes.bin"): every value is compared with what crates `classes`
+// and `mask_store` answer.
 mod byte_class;
 mod masks;
 

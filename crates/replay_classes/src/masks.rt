@@ -1,8 +1,8 @@
 // Classes that are added to a mask store, one after another, and the tables that it renders.
 ghost use Prim.Native.Nat.{_<_};
-use classes::masks::AddAnswer;
-use classes::masks::Added;
-use classes::masks::MaskStore;
+use mask_store::AddAnswer;
+use mask_store::Added;
+use mask_store::MaskStore;
 use vectors::tally::Case;
 use vectors::tally::Tally;
 
@@ -11,9 +11,9 @@ use vectors::tally::Tally;
 // A class added to a store, which is lent where `by_loan` says so.
 fn added(store: MaskStore, class: [bool; 256], by_loan: bool) -> Added {
     if by_loan {
-        classes::masks::add_by_loan(store, class)
+        mask_store::add_by_loan(store, class)
     } else {
-        classes::masks::add_by_value(store, class)
+        mask_store::add_by_value(store, class)
     }
 }
 
@@ -88,7 +88,7 @@ fn store_alike(
     at: usize,
 ) -> Case {
     let mut told: u8 = 7;
-    let luts = classes::masks::render_luts(store, &mut told);
+    let luts = mask_store::render_luts(store, &mut told);
     let tables = store.tables;
     let same = store.count == count && told == refusal;
     if refusal == 0 {

@@ -12,12 +12,12 @@ use lib.ListN.{length, getD, set, replicate, length-set, length-replicate}
 use lib.Seq.{getD-set-same, getD-set-other}
 use Rattle.lists.proofs.Bools.{Is, is, yes-is, no-is, bool-ext, some-inj}
 use Rattle.lists.proofs.Padding.{replicate-at}
-use Rattle.classes.specs.Masks.{isSet, withBit}
-use Rattle.classes.proofs.Bits.{bit-zero, set-own, set-other}
+use Rattle.bits.specs.Bits.{isSet, withBit}
+use Rattle.bits.proofs.Bits.{bit-zero, set-own, set-other}
 use Rattle.rules.specs.Graph.{Graph, stateOf, to, leads}
-use Rattle.rules.proofs.Views.{edge-leads, edge-within}
+use Rattle.rules.proofs.Views.{edge-leads, edge-within, leads-edge}
 use Rattle.rewrite.specs.Matrix.{bitAt}
-use Rattle.rewrite.proofs.Edges.{Pass, pass-none, pass-more, pass-skip, pass-row, leads-edge}
+use Rattle.rewrite.proofs.Edges.{Pass, pass-none, pass-more, pass-skip, pass-row}
 
 -- ---- one bit
 

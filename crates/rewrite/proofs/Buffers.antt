@@ -11,10 +11,10 @@ use lib.Seq.{ext-getD, length-take-le, getD-take, getD-drop, getD-append-add, dr
 use Rattle.lists.proofs.Bools.{lt-or-le}
 use Rattle.rules.specs.Graph.{Graph, to, acceptOf, earlyOf, graphFrom, graphFits, graphWords, graphBuffer}
 use Rattle.rules.proofs.Fits.{Fits}
-use Rattle.rules.proofs.Flat.{target-word, marks-word}
+use Rattle.rules.proofs.Flat.{target-word, marks-word, from-length}
 use Rattle.rules.proofs.Taken.{taken-long, taken-few}
 use Rattle.rules.proofs.Words.{words-length, buffer-length, words-taken, graph-back}
-use Rattle.rewrite.proofs.Read.{from-length, target-is, accept-is, early-is, taken-fits}
+use Rattle.rewrite.proofs.Read.{target-is, accept-is, early-is, taken-fits}
 
 -- ---- words that are the same from some place on
 

@@ -14,11 +14,12 @@ use Rattle.lists.proofs.Bools.{Is, is, yes-is, no-is, none-some, lt-or-le}
 use Rattle.lists.proofs.Elements.{all-intro, all-at, option-sound}
 use Rattle.rules.specs.Graph.{State, Graph, stateOf, to, acceptOf, earlyOf, orNone, graphFrom, graphFits}
 use Rattle.rules.specs.Build.{children, acceptBy, agreed, withEarly}
-use Rattle.rules.proofs.Flat.{from-to, from-accept}
+use Rattle.rules.proofs.Flat.{from-to, from-accept, from-length, from-width}
 use Rattle.rules.proofs.Marks.{early-early}
 use Rattle.rules.proofs.Taken.{taken-long}
 use Rattle.rules.proofs.Views.{out-accept}
-use Rattle.rewrite.proofs.Read.{word-inj, from-length, from-width, accept-leaf}
+use Rattle.rules.proofs.Nones.{word-inj}
+use Rattle.rewrite.proofs.Read.{accept-leaf}
 
 -- ---- lists of leaves
 
@@ -69,7 +70,7 @@ module _ (w : List ℕ) (taken : graphFits w ≡ true) (s : ℕ) (h : s < getD w
   leaves = map (acceptBy g) (children (stateOf g s))
 
   width : length (stateOf g s .steps) ≡ 257
-  width = from-width w taken s h
+  width = from-width w (taken-long w taken) s h
 
   -- the children are the edges of l, a part of the row
   module _ (l : List (Option ℕ)) (all : children (stateOf g s) ≡ l) where
@@ -154,8 +155,8 @@ early-alike v w taken-v taken-w size targets accepts s h =
 
     steps : stateOf (graphFrom v) s .steps ≡ stateOf (graphFrom w) s .steps
     steps =
-        let a = from-width v taken-v s (hv h) in
-        ext-getD none (stateOf (graphFrom v) s .steps) (stateOf (graphFrom w) s .steps) (a ∙ sym (from-width w taken-w s h))
+        let a = from-width v (taken-long v taken-v) s (hv h) in
+        ext-getD none (stateOf (graphFrom v) s .steps) (stateOf (graphFrom w) s .steps) (a ∙ sym (from-width w (taken-long w taken-w) s h))
         (λ c b.
         let b′ : c < 257 = omega arith in
         from-to v (taken-long v taken-v) s (hv h) c b′ ∙ ap (orNone 65535) (targets s c b′) ∙ sym (from-to w (taken-long w taken-w) s h c b′))

@@ -1,30 +1,10 @@
 -- A pass over all edges of a graph, state by state, that collects what they hit: what it has after some edges, and after all. Assumes nothing.
-use mathlib.Core.Path.{_≡_, sym, subst, subst₂}
-use mathlib.Core.Bool.{true, false≢true}
-use mathlib.Core.List.{List, [], _∷_}
-use mathlib.Core.Option.{Option, none, some}
+use mathlib.Core.Path.{_≡_, subst, subst₂}
+use mathlib.Core.Option.{some}
 use mathlib.Core.Logic.{_⊎_, inl, inr, ⊎-elim}
-use Prim.Native.Nat.{ℕ, suc, _+_, _≤_, _<_}
+use Prim.Native.Nat.{ℕ, _+_, _≤_, _<_}
 use native.Mathlib.Nat.{not-suc-le-zero, eq-or-lt-of-le}
 use native.Mathlib.Omega.{arith}
-use lib.ListN.{getD}
-use Rattle.lists.specs.Lists.{anyL, eqOption}
-use Rattle.lists.proofs.Bools.{or-cases}
-use Rattle.lists.proofs.Elements.{option-sound}
-use Rattle.rules.specs.Graph.{Graph, stateOf, to, leads}
-
--- ---- an edge of a state that leads to another
-
-any-find : (l : List (Option ℕ)) (u : ℕ) → anyL (eqOption (some u)) l ≡ true → (c : ℕ) × (getD l c none ≡ some u)
-any-find [] u h = absurd (false≢true h)
-any-find (o ∷ l) u h =
-    ⊎-elim (λ a. (0, sym (option-sound .eq (some u) o a))) (λ b. let (c, e) = any-find l u b in (suc c, e)) (or-cases (eqOption (some u) o) _ h)
-
-pub leads-edge : (g : Graph) (s u : ℕ) → leads (stateOf g s) u ≡ true → (c : ℕ) × (to g s c ≡ some u)
-unfolding leads to
-leads-edge g s u h = any-find (stateOf g s .steps) u h
-
--- ---- the pass
 
 -- edge d of state q comes before edge c of state p
 abbrev pub Before : ℕ → ℕ → ℕ → ℕ → Type 0

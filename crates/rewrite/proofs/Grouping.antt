@@ -22,12 +22,12 @@ use Rattle.lists.proofs.Selecting.{select-in, select-out, select-whole}
 use Rattle.lists.proofs.Worklist.{none-in}
 use Rattle.rules.specs.Graph.{State, Graph, blank, stateOf, same, orNone}
 use Rattle.rules.specs.Build.{relabel, mergeRound}
+use Rattle.rules.proofs.Fits.{Root}
 use Rattle.rules.proofs.Merge.{same-sound, names}
+use Rattle.rules.proofs.Nones.{or-none, or-number}
 use Rattle.rewrite.specs.Equals.{Lowest}
 use Rattle.rewrite.specs.Names.{namesOf, Fitting}
-use Rattle.rewrite.proofs.Read.{or-none, or-number, Root}
-use Rattle.rewrite.proofs.Naming.{relabel-alike}
-use Rattle.rewrite.proofs.Steps.{fitting-alike, round-fitting}
+use Rattle.rewrite.proofs.Naming.{relabel-alike, fitting-alike, round-fitting}
 
 -- ---- an element that equals one of a list
 

@@ -1,12 +1,12 @@
 pub mod Read
 pub mod Buffers
-pub mod Steps
 pub mod Children
 pub mod Marking
 pub mod Edges
 pub mod Parents
 pub mod BitRows
 pub mod Backward
+pub mod Looking
 pub mod Rows
 pub mod Packing
 pub mod Naming

@@ -1,4 +1,5 @@
--- New names as words: a set's members numbered from the front, and names that read alike relabel alike. Assumes nothing.
+-- New names as words: a set's members numbered from the front; names that read alike relabel alike; the names of the prune and of a merge round fit.
+-- Assumes nothing.
 use mathlib.Core.Path.{_≡_, refl, sym, ap, _∙_}
 use mathlib.Core.Bool.{Bool, false}
 use mathlib.Core.List.{List, map}
@@ -9,16 +10,19 @@ use native.Mathlib.Omega.{arith}
 use borrow.Author.Count.{below-more}
 use lib.ListN.{length, getD, set, take, replicate, length-map, length-set, length-replicate, List·getD-map}
 use lib.Seq.{ext-getD, getD-set-same, getD-set-other}
-use Rattle.lists.specs.Lists.{numberFrom}
+use Rattle.lists.specs.Lists.{select, distinct, numberFrom}
 use Rattle.lists.specs.Sets.{In, count}
 use Rattle.lists.proofs.Numbering.{number-count}
 use Rattle.lists.proofs.Numbers.{number-length, number-none, count-few}
 use Rattle.lists.proofs.Padding.{replicate-at}
 use Rattle.lists.proofs.Worklist.{count-take-in, count-take-out}
-use Rattle.rules.specs.Graph.{State, orNone}
-use Rattle.rules.specs.Build.{renamed, relabel}
-use Rattle.rewrite.specs.Names.{namesOf}
-use Rattle.rewrite.proofs.Read.{or-none, or-number}
+use Rattle.rules.specs.Graph.{State, Graph, orNone, same}
+use Rattle.rules.specs.Build.{renamed, relabel, kept}
+use Rattle.rules.proofs.Fits.{Root, restrict-rooted, round-rooted}
+use Rattle.rules.proofs.Merge.{names, placed}
+use Rattle.rules.proofs.Nones.{or-none, or-number}
+use Rattle.rules.proofs.Prune.{kept-length, kept-root, restrict-placed}
+use Rattle.rewrite.specs.Names.{namesOf, Fitting}
 
 -- ---- numbering: the numbers below s have been passed, k of them are members
 
@@ -77,3 +81,20 @@ relabel-alike a b rest root same =
       states = map (λ s. record { steps = map (λ o. elim o [ none ↦ none | some u ↦ same u i ]) (s .steps); accept = s .accept; early = s .early }) rest;
       root = Option·getD (same root i) 0;
     }
+
+pub fitting-alike : (a b : List (Option ℕ)) (rest : List State) (root : ℕ) → ((u : ℕ) → getD a u none ≡ getD b u none) → Fitting b rest root → Fitting a rest root
+fitting-alike a b rest root same f =
+    record { below = λ s i e. f .below s i (sym (same s) ∙ e); root-below = rw (same root) (f .root-below) }
+
+-- ---- names that fit
+
+module _ (g : Graph) (root : Root (length (g .states)) (g .root)) where
+  pub pruned-fitting : Fitting (numberFrom 0 (kept g)) (select (kept g) (g .states)) (g .root)
+  pruned-fitting =
+      record {
+        below = λ s i e. restrict-placed g (kept g) (kept-length g) s i e .0;
+        root-below = restrict-rooted g (kept g) (kept-length g) (kept-root g) root;
+      }
+
+  pub round-fitting : Fitting (names g) (distinct same (g .states)) (g .root)
+  round-fitting = record { below = λ s i e. placed g s i e .0; root-below = round-rooted g root }

@@ -16,8 +16,8 @@ use Rattle.lists.proofs.Padding.{padded, padding-at}
 use Rattle.lists.proofs.Worklist.{in-keeps, in-cases, none-in}
 use Rattle.rules.specs.Graph.{State, Graph, blank, stateOf, to, acceptOf, earlyOf, leads}
 use Rattle.rules.specs.Build.{covered}
-use Rattle.rules.proofs.Views.{edge-leads, edge-within}
-use Rattle.rewrite.proofs.Edges.{Pass, pass-none, pass-more, pass-skip, pass-row, leads-edge}
+use Rattle.rules.proofs.Views.{edge-leads, edge-within, leads-edge}
+use Rattle.rewrite.proofs.Edges.{Pass, pass-none, pass-more, pass-skip, pass-row}
 
 -- ---- covered
 

@@ -14,11 +14,10 @@ use Rattle.lists.proofs.Padding.{padding-at}
 use Rattle.lists.proofs.Selecting.{select-whole}
 use Rattle.rules.specs.Graph.{State, Graph}
 use Rattle.rules.specs.Build.{relabel, restrict, kept, pruned}
+use Rattle.rules.proofs.Fits.{Root}
 use Rattle.rules.proofs.Prune.{kept-length}
 use Rattle.rewrite.specs.Names.{Fitting}
-use Rattle.rewrite.proofs.Read.{Root}
-use Rattle.rewrite.proofs.Naming.{relabel-alike}
-use Rattle.rewrite.proofs.Steps.{fitting-alike, pruned-fitting}
+use Rattle.rewrite.proofs.Naming.{relabel-alike, fitting-alike, pruned-fitting}
 
 module _ (g : Graph) (j : ℕ) (names : List (Option ℕ)) (names-are : names ≡ numberFrom 0 (kept g ++ replicate j false)) where
   abbrev keep : List Bool

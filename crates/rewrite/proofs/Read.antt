@@ -6,57 +6,25 @@ use mathlib.Core.Option.{Option, none, some, Option·getD}
 use mathlib.Core.Logic.{_⊎_, ⊎-elim}
 use Prim.Native.Nat.{ℕ, _+_, _*_, _/_, _%_, _≤_, _<_}
 use native.Mathlib.Omega.{arith}
-use borrow.Author.Tests.{eqb-true, eq-eqb, ne-eqb, le-leb, lt-ltb}
+use borrow.Author.Tests.{eq-eqb, le-leb, lt-ltb}
 use lib.Dec.{eqb, ltb}
-use lib.ListN.{length, getD, take, drop, length-map, List·getD-eq-default}
+use lib.ListN.{length, getD, take, drop, List·getD-eq-default}
 use lib.Seq.{length-take-le, getD-take}
 use Rattle.lists.specs.Lists.{allL, pieces, eqOption}
 use Rattle.lists.proofs.Bools.{Is, is, yes-is, no-is, none-some, lt-or-le, and-intro, or-left, or-right}
-use Rattle.lists.proofs.Elements.{all-intro, map-at, option-sound}
+use Rattle.lists.proofs.Elements.{all-intro, option-sound}
 use Rattle.lists.proofs.Pieces.{pieces-length, piece-word}
-use Rattle.rules.specs.Graph.{State, Graph, blank, stateOf, to, acceptOf, earlyOf, orNone, stateFrom, graphFrom, graphFits}
-use Rattle.rules.proofs.Fits.{Fits}
-use Rattle.rules.proofs.Flat.{from-to, from-accept, from-early, piece, piece-length}
+use Rattle.rules.specs.Graph.{Graph, stateOf, to, acceptOf, earlyOf, orNone, graphFrom, graphFits}
+use Rattle.rules.proofs.Fits.{Fits, Root}
+use Rattle.rules.proofs.Flat.{from-to, from-accept, from-early, piece-length, from-length, from-width}
 use Rattle.rules.proofs.Taken.{taken-long, taken-few, taken-root, taken-target}
 use Rattle.rules.proofs.Views.{edge-within, out-accept, out-early}
-
--- ---- a word, and none
-
-module _ (none-word x : ℕ) where
-  pub or-word : Option·getD (orNone none-word x) none-word ≡ x
-  or-word = go (is (eqb x none-word))
-    where
-      go : Is (eqb x none-word) → Option·getD (orNone none-word x) none-word ≡ x
-      go (yes-is q) = rw q (sym (eqb-true x none-word q))
-      go (no-is q) = rw q
-
-  pub or-none : x ≡ none-word → orNone none-word x ≡ none
-  or-none e = rw (eq-eqb x none-word e)
-
-  pub or-number : (x ≡ none-word → ⊥) → orNone none-word x ≡ some x
-  or-number n = rw (ne-eqb x none-word n)
-
-  -- a number is not the word for none
-  pub or-some : (u : ℕ) → orNone none-word x ≡ some u → (x ≡ u) × (x ≡ none-word → ⊥)
-  or-some u e = (sym or-word ∙ ap (λ (o : Option ℕ). Option·getD o none-word) e, λ q. none-some (sym (or-none q) ∙ e))
-
-pub or-same : (none-word x y : ℕ) → orNone none-word x ≡ orNone none-word y → x ≡ y
-or-same n x y e = sym (or-word n x) ∙ ap (λ (o : Option ℕ). Option·getD o n) e ∙ or-word n y
-
--- two that are not the word for none are equal where their words are
-pub word-inj : (k : ℕ) (a b : Option ℕ) → (a ≡ some k → ⊥) → (b ≡ some k → ⊥) → Option·getD a k ≡ Option·getD b k → a ≡ b
-word-inj k none none m n e = refl
-word-inj k none (some y) m n e = absurd (n (ap {B = Option ℕ} some (sym e)))
-word-inj k (some x) none m n e = absurd (m (ap {B = Option ℕ} some e))
-word-inj k (some x) (some y) m n e = ap {B = Option ℕ} some e
+use Rattle.rules.proofs.Nones.{or-word, or-some, word-inj}
 
 -- ---- taken, from the words
 
 abbrev pub Target : ℕ → ℕ → Type 0
 Target n u = (u < n) ⊎ (u ≡ 65535)
-
-abbrev pub Root : ℕ → ℕ → Type 0
-Root n r = (r < n) ⊎ ((n ≡ 0) × (r ≡ 0))
 
 module _ (w : List ℕ) (long : 2 + 258 * getD w 0 0 ≤ length w) (few : getD w 0 0 ≤ 1024) where
   abbrev n : ℕ
@@ -91,21 +59,9 @@ module _ (w : List ℕ) (long : 2 + 258 * getD w 0 0 ≤ length w) (few : getD w
 
 -- ---- the graph that they hold
 
-pub from-length : (w : List ℕ) → length (graphFrom w .states) ≡ getD w 0 0
-unfolding graphFrom
-from-length w = length-map (pieces 258 (getD w 0 0) (drop 2 w)) stateFrom ∙ pieces-length 258 (getD w 0 0) (drop 2 w)
-
 module _ (w : List ℕ) (taken : graphFits w ≡ true) where
   abbrev g : Graph
   g = graphFrom w
-
-  pub from-width : (s : ℕ) → s < getD w 0 0 → length (stateOf (graphFrom w) s .steps) ≡ 257
-  unfolding stateOf graphFrom stateFrom
-  from-width s h =
-      let p = piece w (taken-long w taken) s h in
-      let e = piece-length w (taken-long w taken) s h in
-      let at : stateOf g s ≡ stateFrom p = map-at stateFrom (pieces 258 (getD w 0 0) (drop 2 w)) s [] blank (rw (pieces-length 258 (getD w 0 0) (drop 2 w)) h) in
-      ap (λ (x : State). length (x .steps)) at ∙ length-map (take 257 p) (orNone 65535) ∙ length-take-le 257 p (omega arith)
 
   -- ---- its words, one by one
 
@@ -129,7 +85,7 @@ module _ (w : List ℕ) (taken : graphFits w ≡ true) where
       (λ b.
       let (x, y) = or-some 65535 (getD w (2 + 258 * s + c) 0) u (sym (from-to w (taken-long w taken) s h c b) ∙ e) in
       (h, b, x, ⊎-elim (λ l. subst (λ (z : ℕ). z < getD w 0 0) x l) (λ l. absurd (y l)) (taken-target w taken s c h b)))
-      (λ b. absurd (none-some (sym (List·getD-eq-default (stateOf g s .steps) none (rw (from-width s h) b)) ∙ e)))
+      (λ b. absurd (none-some (sym (List·getD-eq-default (stateOf g s .steps) none (rw (from-width w (taken-long w taken) s h) b)) ∙ e)))
       (lt-or-le c 257)
 
   -- what a target word says of its edge
@@ -195,7 +151,7 @@ module _ (w : List ℕ) (taken : graphFits w ≡ true) where
         states = λ s h.
             let h′ : s < getD w 0 0 = rw (from-length w) at h in
             record {
-              width = from-width s h′;
+              width = from-width w (taken-long w taken) s h′;
               accept-below = λ l e. leaf (getD w (2 + 258 * s + 257) 0 % 256) l (omega arith) (sym (from-accept w (taken-long w taken) s h′) ∙ e);
               early-below = λ l e. leaf (getD w (2 + 258 * s + 257) 0 / 256) l (let b = small (2 + 258 * s + 257) in omega arith) (sym (from-early w (taken-long w taken) s h′) ∙ e);
             };

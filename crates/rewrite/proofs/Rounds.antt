@@ -12,11 +12,11 @@ use Rattle.lists.proofs.Bools.{Is, is, yes-is, no-is}
 use Rattle.lists.proofs.Distinct.{distinct-length}
 use Rattle.rules.specs.Graph.{Graph, same, graphFits, graphFrom, graphBuffer}
 use Rattle.rules.specs.Build.{mergeRound, mergesNone, mergeFor, merged}
-use Rattle.rules.proofs.Fits.{Fits}
+use Rattle.rules.proofs.Fits.{Fits, round-fits}
 use Rattle.rules.proofs.Merge.{same-sound, round-length}
-use Rattle.rewrite.proofs.Read.{from-length, taken-fits}
+use Rattle.rules.proofs.Flat.{from-length}
+use Rattle.rewrite.proofs.Read.{taken-fits}
 use Rattle.rewrite.proofs.Buffers.{buffer-back, taken-words, written-over}
-use Rattle.rewrite.proofs.Steps.{round-fits}
 
 -- ---- rounds
 

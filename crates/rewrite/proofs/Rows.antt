@@ -15,8 +15,8 @@ use Rattle.lists.proofs.Padding.{default-any}
 use Rattle.words.specs.Places.{graphPlace}
 use Rattle.rules.specs.Graph.{orNone}
 use Rattle.rules.proofs.Rename.{led}
+use Rattle.rules.proofs.Nones.{or-word}
 use Rattle.rewrite.specs.Names.{namesOf, renamedWord, Moved, Zeroed}
-use Rattle.rewrite.proofs.Read.{or-word}
 
 -- ---- names, from their words
 

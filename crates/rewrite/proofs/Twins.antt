@@ -15,7 +15,8 @@ use Rattle.lists.proofs.Pieces.{pieces-length, piece-word}
 use Rattle.rules.specs.Graph.{State, blank, stateOf, to, acceptOf, earlyOf, stateFrom, graphFrom, graphFits}
 use Rattle.rules.proofs.Flat.{piece-length, from-to}
 use Rattle.rules.proofs.Taken.{taken-long}
-use Rattle.rewrite.proofs.Read.{or-same, accept-is, early-is}
+use Rattle.rules.proofs.Nones.{or-same}
+use Rattle.rewrite.proofs.Read.{accept-is, early-is}
 
 module _ (w : List ℕ) (taken : graphFits w ≡ true) (s t : ℕ) (hs : s < getD w 0 0) (ht : t < getD w 0 0) where
   abbrev rows : List (List ℕ)

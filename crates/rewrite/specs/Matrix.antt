@@ -3,7 +3,7 @@ use mathlib.Core.Bool.{Bool}
 use mathlib.Core.List.{List}
 use Prim.Native.Nat.{ℕ, _+_, _*_, _/_, _%_}
 use lib.ListN.{getD}
-use Rattle.classes.specs.Masks.{isSet}
+use Rattle.bits.specs.Bits.{isSet}
 
 unfoldable pub bitAt : List ℕ → ℕ → ℕ → Bool
 bitAt m t p = isSet (p % 8) (getD m (128 * t + p / 8) 0)

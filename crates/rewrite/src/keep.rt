@@ -1,10 +1,10 @@
 // Rule 7: the states that are kept.
-use super::bits::test_bit;
-use super::bits::with_bit;
 use super::relabel::numbered;
 use super::relabel::relabel;
 use super::views::target;
 use super::views::word_of;
+use bits::test_bit;
+use bits::with_bit;
 use words::word;
 ghost use mathlib.Core.Path.{_≡_};
 ghost use mathlib.Core.Bool.{true, false, _||_};

@@ -4,7 +4,6 @@
 // dropped, and the rest as found; the result is taken by 12 again, so that the steps follow one another. The rules are defined in
 // rules/specs/Build.antt.
 
-pub mod bits;
 pub mod clear;
 pub mod early;
 pub mod keep;

@@ -1,30 +1,29 @@
--- The finished graph of a legal table fits its words: rows of 257 targets, each below the count; leaves below m; no more states than the table; a
--- root that is a state, if there is one. Assumes nothing.
-use mathlib.Core.Path.{_≡_, refl, sym, subst, _∙_}
-use mathlib.Core.Bool.{Bool, true, false, cond}
+-- A graph fits its words: rows of 257 targets, each below the count; leaves below m; at most n states; a root that is a state, if there is one. Each of
+-- the rules 5 to 8 keeps it so, and the finished graph of a legal table fits. Assumes nothing.
+use mathlib.Core.Path.{_≡_, refl, sym, ap, _∙_}
+use mathlib.Core.Bool.{Bool}
 use mathlib.Core.List.{List, [], _∷_, map}
-use mathlib.Core.Option.{Option, none, some}
+use mathlib.Core.Option.{Option, none, some, Option·getD}
 use mathlib.Core.Logic.{_⊎_, inl, inr, ⊎-elim}
-use Prim.Native.Nat.{ℕ, _≤_, _<_, zero-le, suc-le-suc}
+use Prim.Native.Nat.{ℕ, _≤_, _<_, zero-le}
 use native.Mathlib.Nat.{not-suc-le-zero}
 use native.Mathlib.Omega.{arith}
-use lib.ListN.{length, getD, length-map, List·getD-map}
-use Rattle.lists.specs.Lists.{allL, select, distinct, place, numberFrom, eqOption}
-use Rattle.lists.proofs.Closure.{in-below}
-use Rattle.lists.proofs.Bools.{Is, is, no-is, none-some, lt-or-le, yes-is}
+use lib.ListN.{length, getD, length-map, List·getD-eq-default}
+use Rattle.lists.specs.Sets.{In}
+use Rattle.lists.specs.Lists.{select, distinct, place, numberFrom}
+use Rattle.lists.proofs.Bools.{none-some}
 use Rattle.lists.proofs.Distinct.{distinct-from, distinct-length}
-use Rattle.lists.proofs.Numbering.{in-number}
+use Rattle.lists.proofs.Numbers.{number-length}
+use Rattle.lists.proofs.Selecting.{select-from, select-le}
 use Rattle.rules.specs.Table.{Table, tableOf, refusal, size, rowOf}
-use Rattle.rules.specs.Graph.{State, Graph, blank, stateOf, to, acceptOf, same}
-use Rattle.rules.specs.Build.{reached, renamed, relabel, restrict, kept, pruned, firstState, wholeGraph, children, acceptBy, agreed, withEarly, withCleared, covered, cleared, unpruned, mergeRound, merged, leafOf, edge, emptyLeaves, buildFrom, build}
-use Rattle.rules.proofs.Views.{out-accept}
+use Rattle.rules.specs.Graph.{State, Graph, blank, stateOf, to, acceptOf, earlyOf, same}
+use Rattle.rules.specs.Build.{reached, renamed, relabel, restrict, kept, pruned, firstState, wholeGraph, withEarly, withCleared, cleared, unpruned, mergeRound, merged, edge, emptyLeaves, buildFrom, build}
 use Rattle.rules.proofs.Rename.{Named, led, relabel-state, relabel-to}
 use Rattle.rules.proofs.Merge.{merged-keep, names, placed, round-length, round-root, same-sound}
-use Rattle.rules.proofs.Prune.{kept-length, pruned-root, restrict-length, restrict-onto, restrict-placed}
-use Rattle.rules.proofs.Marks.{cleared-length, cleared-state, early-length, early-state}
+use Rattle.rules.proofs.Prune.{kept-length, kept-root, restrict-length, restrict-placed, restrict-root}
+use Rattle.rules.proofs.Marks.{early-state, early-to, early-accept, early-length, early-byte, cleared-length, cleared-state, cleared-to, cleared-accept}
 use Rattle.rules.proofs.Shape.{Shaped, legal-leaf, legal-shaped, size-is}
-use Rattle.rules.proofs.Unpruned.{first, lengths, whole-length, whole-state}
-use Rattle.rules.proofs.Reached.{un-root-within}
+use Rattle.rules.proofs.Unpruned.{lengths, reached-below, reached-start, whole-length, whole-state}
 
 pub record FitsState (m : ℕ) (s : State) : Type 0 where
   pub width : length (s .steps) ≡ 257
@@ -34,220 +33,189 @@ pub record FitsState (m : ℕ) (s : State) : Type 0 where
 abbrev pub AllFit : ℕ → Graph → Type 0
 AllFit m g = (i : ℕ) → i < length (g .states) → FitsState m (stateOf g i)
 
-abbrev pub Closed : Graph → Type 0
-Closed g = (s c u : ℕ) → to g s c ≡ some u → u < length (g .states)
+-- of n states, r is one, or there are none and r is 0
+abbrev pub Root : ℕ → ℕ → Type 0
+Root n r = (r < n) ⊎ ((n ≡ 0) × (r ≡ 0))
 
 pub record Fits (m n : ℕ) (g : Graph) : Type 0 where
   pub states : AllFit m g
-  pub closed : Closed g
+  pub closed : (s c u : ℕ) → to g s c ≡ some u → u < length (g .states)
   pub few : length (g .states) ≤ n
-  pub root : (g .root < length (g .states)) ⊎ ((length (g .states) ≡ 0) × (g .root ≡ 0))
+  pub root : Root (length (g .states)) (g .root)
 
--- ---- relabelled
+module _ (m n : ℕ) (g : Graph) (f : Fits m n g) where
+  -- its own number of states is enough
+  tight : Fits m (length (g .states)) g
+  tight = record { states = f .states; closed = f .closed; few = omega arith; root = f .root }
 
-renamed-fits : (m : ℕ) (names : List (Option ℕ)) (s : State) → FitsState m s → FitsState m (renamed names s)
-unfolding renamed
-renamed-fits m names s f = record { width = length-map (s .steps) _ ∙ f .width; accept-below = f .accept-below; early-below = f .early-below }
+  -- ---- rule 5
 
-module _ (names : List (Option ℕ)) (rest : List State) (root : ℕ) where
-  relabel-length : length (relabel names rest root .states) ≡ length rest
-  unfolding relabel
-  relabel-length = length-map rest (renamed names)
+  pub early-fits : Fits m n (withEarly g)
+  unfolding acceptOf earlyOf withEarly
+  early-fits =
+      record {
+        states = λ s h.
+            let h′ : s < length (g .states) = rw (early-length g) at h in
+            record {
+              width = ap (λ (x : State). length (x .steps)) (early-state g s) ∙ f .states s h′ .width;
+              accept-below = λ l e. f .states s h′ .accept-below l (sym (early-accept g s) ∙ e);
+              early-below = λ l e.
+                  let wide = f .states s h′ .width in
+                  let (u, p, q) = early-byte g s l 0 e (omega arith) (omega arith) in
+                  f .states u (f .closed s 0 u p) .accept-below l q;
+            };
+        closed = λ s c u e. rw (early-length g) (f .closed s c u (sym (early-to g s c) ∙ e));
+        few = rw (early-length g) (f .few);
+        root = rw (early-length g) (f .root);
+      }
 
-  relabel-fits : (m : ℕ) → ((i : ℕ) → i < length rest → FitsState m (getD rest i blank)) → AllFit m (relabel names rest root)
-  relabel-fits m f i h = rw (relabel-state names rest root i) (renamed-fits m names (getD rest i blank) (f i (rw relabel-length at h)))
+  -- ---- rule 6
 
-  relabel-closed : ((s i : ℕ) → Named names s i → i < length rest) → Closed (relabel names rest root)
-  relabel-closed small s c u e = rw relabel-length (go (getD (getD rest s blank .steps) c none) (sym (relabel-to names rest root s c) ∙ e))
-    where
-      go : (o : Option ℕ) → led names o ≡ some u → u < length rest
-      go none q = absurd (none-some q)
-      go (some v) q = small v u q
+  pub cleared-fits : Fits m n (withCleared g)
+  unfolding acceptOf earlyOf withCleared cleared
+  cleared-fits =
+      record {
+        states = λ s h.
+            let h′ : s < length (g .states) = rw (cleared-length g) at h in
+            record {
+              width = ap (λ (x : State). length (x .steps)) (cleared-state g s h′) ∙ f .states s h′ .width;
+              accept-below = λ l e.
+                  ⊎-elim (λ a. absurd (none-some (sym (a .1) ∙ e))) (λ a. f .states s h′ .accept-below l (sym a ∙ e)) (cleared-accept g s h′);
+              early-below = λ l e. f .states s h′ .early-below l (ap (λ (x : State). x .early) (sym (cleared-state g s h′)) ∙ e);
+            };
+        closed = λ s c u e. rw (cleared-length g) (f .closed s c u (sym (cleared-to g s c) ∙ e));
+        few = rw (cleared-length g) (f .few);
+        root = rw (cleared-length g) (f .root);
+      }
 
--- ---- rules 2 and 7
+-- ---- states that stay, known by new names: rules 2, 7 and 8
 
-select-length : {A : Type 0} (keep : List Bool) (l : List A) → length (select keep l) ≤ length l
-select-length [] l = zero-le
-select-length (b ∷ keep) [] = zero-le
-select-length (true ∷ keep) (x ∷ l) = suc-le-suc (select-length keep l)
-select-length (false ∷ keep) (x ∷ l) = let h = select-length keep l in omega arith
-
-module _ (g : Graph) (keep : List Bool) (len : length keep ≡ length (g .states)) where
-  pub restrict-fits : (m : ℕ) → AllFit m g → AllFit m (restrict keep g)
-  unfolding restrict
-  restrict-fits m f = relabel-fits (numberFrom 0 keep) (select keep (g .states)) (g .root) m one
-    where
-      one : (i : ℕ) → i < length (select keep (g .states)) → FitsState m (getD (select keep (g .states)) i blank)
-      one i h =
-          let (s, n) = restrict-onto g keep len i (rw (restrict-length g keep len) h) in
-          let b : s < length keep = in-below keep s (in-number 0 keep s i n) in
-          rw (restrict-placed g keep len s i n .1) (f s (omega arith))
-
-  pub restrict-closed : Closed (restrict keep g)
-  unfolding restrict
-  restrict-closed = relabel-closed (numberFrom 0 keep) (select keep (g .states)) (g .root) (λ s i n. restrict-placed g keep len s i n .0)
-
-  pub restrict-few : length (restrict keep g .states) ≤ length (g .states)
-  restrict-few = rw (restrict-length g keep len) (select-length keep (g .states))
-
--- ---- rule 5
-
-agreed-first : (l : List (Option ℕ)) (x : ℕ) → agreed l ≡ some x → getD l 0 none ≡ some x
-agreed-first [] x e = e
-agreed-first (o ∷ l) x e = go (is (allL (eqOption o) l))
+pub relabel-fits : (m n : ℕ) (g : Graph) → AllFit m g → (names : List (Option ℕ)) (rest : List State) (root : ℕ) → length rest ≤ n
+    → ((i : ℕ) → i < length rest → (s : ℕ) × (s < length (g .states)) × (getD rest i blank ≡ stateOf g s))
+    → ((s i : ℕ) → Named names s i → i < length rest) → Root (length rest) (Option·getD (getD names root none) 0)
+    → Fits m n (relabel names rest root)
+unfolding renamed relabel
+relabel-fits m n g f names rest root less from below rooted =
+    record {
+      states = λ i h.
+          let (s, b, e) = from i (rw size at h) in
+          let old : FitsState m (getD rest i blank) = rw e (f s b) in
+          rw (relabel-state names rest root i)
+          (record { width = length-map (getD rest i blank .steps) _ ∙ old .width; accept-below = old .accept-below; early-below = old .early-below });
+      closed = λ s c u e. rw size (led-below (getD (getD rest s blank .steps) c none) u (sym (relabel-to names rest root s c) ∙ e));
+      few = rw size less;
+      root = rw size rooted;
+    }
   where
-    go : Is (allL (eqOption o) l) → o ≡ some x
-    go (yes-is q) = rw q at e
-    go (no-is q) = absurd (none-some (rw q at e))
+    size : length (map (renamed names) rest) ≡ length rest
+    size = length-map rest (renamed names)
 
-accept-fits : (m : ℕ) (g : Graph) → AllFit m g → (u l : ℕ) → acceptOf g u ≡ some l → l < m
-unfolding acceptOf
-accept-fits m g f u l e =
-    ⊎-elim (λ h. f u h .accept-below l e) (λ h. absurd (none-some (sym (out-accept g u h) ∙ e))) (lt-or-le u (length (g .states)))
+    led-below : (o : Option ℕ) (u : ℕ) → led names o ≡ some u → u < length rest
+    led-below none u e = absurd (none-some e)
+    led-below (some v) u e = below v u e
 
-early-fits : (m : ℕ) (g : Graph) → AllFit m g → AllFit m (withEarly g)
-early-fits m g f i h =
-    rw (early-state g i)
-    (record { width = f i h′ .width; accept-below = f i h′ .accept-below; early-below = λ l e. by (getD c 0 none) l (sym (List·getD-map (acceptBy g) c 0 none) ∙ agreed-first (map (acceptBy g) c) l e) })
-  where
-    c : List (Option ℕ)
-    c = children (stateOf g i)
+-- of a graph without states, nothing stays and nothing is named
+none-left : (names : List (Option ℕ)) (rest : List State) (root : ℕ) → length names ≤ 0 → length rest ≤ 0
+    → Root (length rest) (Option·getD (getD names root none) 0)
+none-left names rest root a b = inr (omega arith, rw (List·getD-eq-default names none {n = root} (omega arith)))
 
-    h′ : i < length (g .states)
-    h′ = rw (early-length g) at h
+module _ (g : Graph) (keep : List Bool) (len : length keep ≡ length (g .states)) (root-kept : g .root < length (g .states) → In keep (g .root)) where
+  pub restrict-rooted : Root (length (g .states)) (g .root) → Root (length (select keep (g .states))) (Option·getD (getD (numberFrom 0 keep) (g .root) none) 0)
+  unfolding restrict relabel
+  restrict-rooted =
+      ⊎-elim
+      (λ h. inl (rw (restrict-length g keep len) at (restrict-root g keep len (root-kept h))))
+      (λ h.
+      let a = number-length 0 keep in
+      let c = select-le keep (g .states) in
+      let z = h .0 in
+      none-left (numberFrom 0 keep) (select keep (g .states)) (g .root) (omega arith) (omega arith))
 
-    by : (o : Option ℕ) (l : ℕ) → acceptBy g o ≡ some l → l < m
-    by none l e = absurd (none-some e)
-    by (some u) l e = accept-fits m g f u l e
+  restrict-fits : (m n : ℕ) → AllFit m g → length (g .states) ≤ n → Root (length (g .states)) (g .root) → Fits m n (restrict keep g)
+  unfolding restrict stateOf
+  restrict-fits m n f few root =
+      let c = select-le keep (g .states) in
+      relabel-fits m n g f (numberFrom 0 keep) (select keep (g .states)) (g .root) (omega arith) (select-from blank keep (g .states))
+      (λ s i e. restrict-placed g keep len s i e .0) (restrict-rooted root)
 
--- ---- rule 6
+-- ---- rule 7
 
-cleared-fits : (m : ℕ) (g : Graph) → AllFit m g → AllFit m (withCleared g)
-unfolding cleared acceptOf
-cleared-fits m g f i h =
-    rw (cleared-state g i h′) (record { width = f i h′ .width; accept-below = λ l e. go (covered g i) l e; early-below = f i h′ .early-below })
-  where
-    h′ : i < length (g .states)
-    h′ = rw (cleared-length g) at h
+pub pruned-fits : (m n : ℕ) (g : Graph) → Fits m n g → Fits m n (pruned g)
+unfolding pruned
+pruned-fits m n g f = restrict-fits g (kept g) (kept-length g) (kept-root g) m n (f .states) (f .few) (f .root)
 
-    go : (b : Bool) (l : ℕ) → cond b none (stateOf g i .accept) ≡ some l → l < m
-    go true l e = absurd (none-some e)
-    go false l e = f i h′ .accept-below l e
+pub pruned-few : (m n : ℕ) (g : Graph) → Fits m n g → length (pruned g .states) ≤ length (g .states)
+pruned-few m n g f = pruned-fits m (length (g .states)) g (tight m n g f) .few
 
 -- ---- rule 8
 
-module _ (g : Graph) where
-  abbrev rest : List State
-  rest = distinct same (g .states)
+few-distinct : (g : Graph) → length (distinct same (g .states)) ≤ length (g .states)
+few-distinct g = distinct-length same same-sound (g .states)
 
-  round-fits : (m : ℕ) → AllFit m g → AllFit m (mergeRound g)
-  unfolding mergeRound stateOf
-  round-fits m f = relabel-fits (map (λ s. place same s rest) (g .states)) rest (g .root) m one
+pub round-rooted : (g : Graph) → Root (length (g .states)) (g .root) → Root (length (distinct same (g .states))) (Option·getD (getD (names g) (g .root) none) 0)
+unfolding mergeRound relabel
+round-rooted g =
+    ⊎-elim
+    (λ h. inl (rw (round-length g) at (round-root g h)))
+    (λ h.
+    let a = few-distinct g in
+    let b : length (names g) ≡ length (g .states) = length-map (g .states) (λ s. place same s (distinct same (g .states))) in
+    let z = h .0 in
+    none-left (names g) (distinct same (g .states)) (g .root) (omega arith) (omega arith))
+
+pub round-fits : (m n : ℕ) (g : Graph) → Fits m n g → Fits m n (mergeRound g)
+unfolding mergeRound stateOf
+round-fits m n g f =
+    let few = f .few in
+    let a = few-distinct g in
+    relabel-fits m n g (f .states) (names g) (distinct same (g .states)) (g .root) (omega arith)
+    (λ i h. let (s, b, e) = distinct-from same same-sound blank (g .states) i h in (s, b, sym e)) (λ s i e. placed g s i e .0) (round-rooted g (f .root))
+
+pub merged-fits : (m n : ℕ) (g : Graph) → Fits m n g → Fits m n (merged g .graph)
+merged-fits m n = merged-keep (Fits m n) (round-fits m n)
+
+pub merged-few : (m n : ℕ) (g : Graph) → Fits m n g → length (merged g .graph .states) ≤ length (g .states)
+merged-few m n g f = merged-fits m (length (g .states)) g (tight m n g f) .few
+
+-- ---- the build of a legal table
+
+module _ (w : List ℕ) (legal : refusal w ≡ 0) where
+  abbrev t : Table
+  t = tableOf w
+
+  sh : Shaped t
+  sh = legal-shaped w legal
+
+  module _ (s₀ : ℕ) (st : tableOf w .start ≡ some s₀) where
+    whole-fits : AllFit (getD w 2 0) (wholeGraph t s₀)
+    unfolding firstState
+    whole-fits s h =
+        let h′ : s < size t = rw (whole-length t sh s₀ st) at h in
+        rw (whole-state t sh s₀ st s h′)
+        (record { width = length-map (rowOf t s .steps) edge ∙ sh .width s h′; accept-below = legal-leaf w legal s; early-below = λ l e. absurd (none-some e) })
+
+    -- rules 2 to 4
+    pub first-fits : Fits (getD w 2 0) (getD w 0 0) (restrict (reached (tableOf w) s₀) (wholeGraph (tableOf w) s₀))
+    unfolding wholeGraph
+    first-fits =
+        let z = whole-length t sh s₀ st in
+        let y = size-is w legal in
+        let b = reached-below t sh s₀ st s₀ (reached-start t sh s₀ st) in
+        restrict-fits (wholeGraph t s₀) (reached t s₀) (lengths t sh s₀ st) (λ _. reached-start t sh s₀ st) (getD w 2 0) (getD w 0 0) whole-fits (omega arith) (inl (omega arith))
+
+    unpruned-fits : Fits (getD w 2 0) (getD w 0 0) (unpruned t s₀)
+    unfolding unpruned
+    unpruned-fits = cleared-fits _ _ _ (early-fits _ _ _ first-fits)
+
+  pub build-fits : Fits (getD w 2 0) (getD w 0 0) (build (tableOf w) .graph)
+  unfolding build to stateOf
+  build-fits = go (t .start) refl (emptyLeaves t)
     where
-      one : (i : ℕ) → i < length rest → FitsState m (getD rest i blank)
-      one i h = let (s, b, e) = distinct-from same same-sound blank (g .states) i h in subst (FitsState m) e (f s b)
+      no-states : Fits (getD w 2 0) (getD w 0 0) (record { states = []; root = 0 })
+      no-states =
+          record { states = λ i h. absurd (not-suc-le-zero h); closed = λ s c u e. absurd (none-some e); few = zero-le; root = inr (refl, refl) }
 
-  round-closed : Closed (mergeRound g)
-  unfolding mergeRound
-  round-closed = relabel-closed (map (λ s. place same s rest) (g .states)) rest (g .root) (λ s i n. placed g s i n .0)
-
-  round-few : length (mergeRound g .states) ≤ length (g .states)
-  round-few = rw (round-length g) (distinct-length same same-sound (g .states))
-
--- ---- the build
-
-module _ (t : Table) (sh : Shaped t) (m : ℕ) (leaf : (s l : ℕ) → leafOf t s ≡ some l → l < m) (s₀ : ℕ) (st : t .start ≡ some s₀) where
-  pub whole-fits : AllFit m (wholeGraph t s₀)
-  unfolding firstState
-  whole-fits s h =
-      let h′ : s < size t = rw (whole-length t sh s₀ st) at h in
-      rw (whole-state t sh s₀ st s h′)
-      (record { width = length-map (rowOf t s .steps) edge ∙ sh .width s h′; accept-below = leaf s; early-below = λ l e. absurd (none-some e) })
-
-  unpruned-fits : AllFit m (unpruned t s₀)
-  unfolding unpruned
-  unpruned-fits =
-      cleared-fits m (withEarly (restrict (reached t s₀) (wholeGraph t s₀))) (early-fits m (restrict (reached t s₀) (wholeGraph t s₀))
-      (restrict-fits (wholeGraph t s₀) (reached t s₀) (lengths t sh s₀ st) m whole-fits))
-
-  unpruned-few : length (unpruned t s₀ .states) ≤ size t
-  unfolding unpruned
-  unpruned-few =
-      let first = restrict (reached t s₀) (wholeGraph t s₀) in
-      let a = cleared-length (withEarly first) in
-      let b = early-length first in
-      let c = restrict-few (wholeGraph t s₀) (reached t s₀) (lengths t sh s₀ st) in
-      let d = whole-length t sh s₀ st in
-      omega arith
-
-  abbrev Good : Graph → Type 0
-  Good g = AllFit m g × Closed g × (length (g .states) ≤ size t) × (g .root < length (g .states))
-
-  pruned-good : Good (pruned (unpruned t s₀))
-  unfolding pruned
-  pruned-good =
-      let g = unpruned t s₀ in (
-        restrict-fits g (kept g) (kept-length g) m unpruned-fits,
-        restrict-closed g (kept g) (kept-length g),
-        (let a = restrict-few g (kept g) (kept-length g) in let b = unpruned-few in omega arith),
-        pruned-root g (un-root-within t sh s₀ st),
-      )
-
-  merged-good : Good (merged (pruned (unpruned t s₀)) .graph)
-  merged-good =
-      merged-keep Good (λ g p. (round-fits g m (p .0), round-closed g, (let a = round-few g in let b = p .2 in omega arith), round-root g (p .3)))
-      (pruned (unpruned t s₀)) pruned-good
-
--- ---- rules 7 and 8, of any graph that has a root
-
-module _ (m n : ℕ) (g : Graph) (f : Fits m n g) (h : g .root < length (g .states)) where
-  pub pruned-few : length (pruned g .states) ≤ length (g .states)
-  unfolding pruned
-  pruned-few = restrict-few g (kept g) (kept-length g)
-
-  pub pruned-fits : Fits m n (pruned g)
-  unfolding pruned
-  pruned-fits =
-      record {
-        states = restrict-fits g (kept g) (kept-length g) m (f .states);
-        closed = restrict-closed g (kept g) (kept-length g);
-        few = (let a = pruned-few in let b = f .few in omega arith);
-        root = inl (pruned-root g h);
-      }
-
-  abbrev Less : Graph → Type 0
-  Less x = AllFit m x × Closed x × (length (x .states) ≤ length (g .states)) × (x .root < length (x .states))
-
-  merged-less : Less (merged g .graph)
-  merged-less =
-      merged-keep Less (λ x p. (round-fits x m (p .0), round-closed x, (let a = round-few x in let b = p .2 in omega arith), round-root x (p .3))) g
-      (f .states, f .closed, omega arith, h)
-
-  pub merged-few : length (merged g .graph .states) ≤ length (g .states)
-  merged-few = merged-less .2
-
-  pub merged-fits : Fits m n (merged g .graph)
-  merged-fits =
-      let p = merged-less in
-      record { states = p .0; closed = p .1; few = (let a = p .2 in let b = f .few in omega arith); root = inl (p .3) }
-
-empty-fits : (m n : ℕ) → Fits m n (record { states = []; root = 0 })
-unfolding to stateOf
-empty-fits m n =
-    record { states = λ i h. absurd (not-suc-le-zero h); closed = λ s c u e. absurd (none-some e); few = zero-le; root = inr (refl, refl) }
-
--- of every legal table
-pub build-fits : (w : List ℕ) → refusal w ≡ 0 → Fits (getD w 2 0) (getD w 0 0) (build (tableOf w) .graph)
-unfolding build
-build-fits w legal = go (tableOf w .start) refl (emptyLeaves (tableOf w))
-  where
-    t : Table
-    t = tableOf w
-
-    go : (o : Option ℕ) → tableOf w .start ≡ o → (l : List ℕ) → Fits (getD w 2 0) (getD w 0 0) (buildFrom (tableOf w) o l .graph)
-    go none e l = empty-fits (getD w 2 0) (getD w 0 0)
-    go (some s) e (x ∷ l) = empty-fits (getD w 2 0) (getD w 0 0)
-    go (some s) e [] =
-        let p = merged-good (tableOf w) (legal-shaped w legal) (getD w 2 0) (legal-leaf w legal) s e in
-        let z = size-is w legal in
-        record { states = p .0; closed = p .1; few = (let q = p .2 in omega arith); root = inl (p .3) }
+      go : (o : Option ℕ) → t .start ≡ o → (l : List ℕ) → Fits (getD w 2 0) (getD w 0 0) (buildFrom t o l .graph)
+      go none e l = no-states
+      go (some s) e (x ∷ l) = no-states
+      go (some s) e [] = merged-fits _ _ _ (pruned-fits _ _ _ (unpruned-fits s e))

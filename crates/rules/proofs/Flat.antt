@@ -117,6 +117,10 @@ module _ (m n : ℕ) (g : Graph) (f : Fits m n g) (i : ℕ) (h : i < length (g .
 
 -- ---- a graph that comes in as words
 
+pub from-length : (w : List ℕ) → length (graphFrom w .states) ≡ getD w 0 0
+unfolding graphFrom
+from-length w = length-map (pieces 258 (getD w 0 0) (drop 2 w)) stateFrom ∙ pieces-length 258 (getD w 0 0) (drop 2 w)
+
 module _ (w : List ℕ) (long : 2 + 258 * getD w 0 0 ≤ length w) (i : ℕ) (h : i < getD w 0 0) where
   abbrev pub piece : List ℕ
   piece = getD (pieces 258 (getD w 0 0) (drop 2 w)) i []
@@ -127,6 +131,13 @@ module _ (w : List ℕ) (long : 2 + 258 * getD w 0 0 ≤ length w) (i : ℕ) (h 
   from-state : stateOf (graphFrom w) i ≡ stateFrom piece
   unfolding stateOf graphFrom
   from-state = map-at stateFrom (pieces 258 (getD w 0 0) (drop 2 w)) i [] blank (rw (pieces-length 258 (getD w 0 0) (drop 2 w)) h)
+
+  pub from-width : length (stateOf (graphFrom w) i .steps) ≡ 257
+  unfolding stateFrom
+  from-width =
+      ap (λ (s : State). length (s .steps)) from-state
+      ∙ length-map (take 257 piece) (orNone 65535)
+      ∙ length-take-le 257 piece (let l = piece-length in omega arith)
 
   pub from-to : (c : ℕ) → c < 257 → to (graphFrom w) i c ≡ orNone 65535 (getD w (2 + 258 * i + c) 0)
   unfolding to stateFrom

@@ -1,5 +1,6 @@
 pub mod Walks
 pub mod Views
+pub mod Nones
 pub mod Rename
 pub mod Merge
 pub mod Prune

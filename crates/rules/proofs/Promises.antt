@@ -9,9 +9,9 @@ use lib.ListN.{length, getD}
 use Rattle.lists.proofs.Distinct.{Apart, apart-differ, apart-nil}
 use Rattle.lists.proofs.Numbering.{number-in}
 use Rattle.rules.specs.Table.{Table, tableOf, refusal}
-use Rattle.rules.specs.Graph.{State, Graph, blank, stateOf, same, FromRoot, stateWords, stateFrom, graphWords, graphBuffer, graphFrom, graphFits}
+use Rattle.rules.specs.Graph.{State, Graph, blank, stateOf, to, acceptOf, earlyOf, same, FromRoot, stateWords, stateFrom, graphWords, graphBuffer, graphFrom, graphFits}
 use Rattle.rules.specs.Build.{build, buildFrom, emptyLeaves, unpruned, pruned, merged, reached, leafOf, edge}
-use Rattle.rules.specs.Read.{Bytes, Clean, late, onward, walk, startAt, tableWalker, graphWalker, readTable, readGraph}
+use Rattle.rules.specs.Read.{Bytes, Orderly, Clean, late, onward, walk, startAt, tableWalker, graphWalker, readTable, readGraph}
 use Rattle.rules.proofs.Merge.{merged-apart, merged-path, merged-reads, rest, same-sound}
 use Rattle.rules.proofs.Prune.{pruned-path, pruned-reads, pruned-root}
 use Rattle.rules.proofs.Shape.{Shaped, few-leaves, few-states, legal-shaped}
@@ -44,21 +44,35 @@ unfolding stateOf
 no-equal-states t i j h k a e s =
     apart-differ same same-sound blank (build t .graph .states) (build-apart t) i j h k (λ x. record { steps = s x; accept = a x; early = e x })
 
--- ---- what a build without errors is
+-- ---- what a build is, where no leaf can match empty text
 
-build-clean : (t : Table) → build t .errors ≡ [] → (s₀ : ℕ) × (t .start ≡ some s₀) × (build t .graph ≡ merged (pruned (unpruned t s₀)) .graph)
+none-built : (t : Table) → t .start ≡ none → build t .graph ≡ record { states = []; root = 0 }
 unfolding build
-build-clean t no-error = go (t .start) refl (emptyLeaves t) refl
+none-built t e i = buildFrom t (e i) (emptyLeaves t) .graph
+
+start-built : (t : Table) → emptyLeaves t ≡ [] → (s₀ : ℕ) → t .start ≡ some s₀ → build t .graph ≡ merged (pruned (unpruned t s₀)) .graph
+unfolding build
+start-built t q s₀ e i = buildFrom t (e i) (q i) .graph
+
+-- a build without errors: no leaf can
+no-empties : (t : Table) → build t .errors ≡ [] → emptyLeaves t ≡ []
+unfolding build
+no-empties t no-error = go (t .start) refl (emptyLeaves t) refl
   where
-    go : (o : Option ℕ) → t .start ≡ o → (l : List ℕ) → emptyLeaves t ≡ l
-        → (s₀ : ℕ) × (t .start ≡ some s₀) × (buildFrom t (t .start) (emptyLeaves t) .graph ≡ merged (pruned (unpruned t s₀)) .graph)
+    go : (o : Option ℕ) → t .start ≡ o → (l : List ℕ) → emptyLeaves t ≡ l → emptyLeaves t ≡ []
     go none e l q = absurd (nil-cons (subst (λ (o : Option ℕ). buildFrom t o (emptyLeaves t) .errors ≡ []) e no-error))
     go (some s) e (x ∷ l) q = absurd (nil-cons (subst₂ (λ (o : Option ℕ) (l : List ℕ). buildFrom t o l .errors ≡ []) e q no-error))
-    go (some s) e [] q = (s, e, λ i. buildFrom t (e i) (q i) .graph)
+    go (some s) e [] q = q
+
+-- a graph without states reads none
+no-states-read : (text : List ℕ) → readGraph (record { states = []; root = 0 }) text ≡ none
+unfolding readGraph graphWalker to stateOf acceptOf earlyOf
+no-states-read [] = refl
+no-states-read (b ∷ text) = refl
 
 -- ---- readings alike
 
-module _ (t : Table) (clean : Clean t) where
+module _ (t : Table) (orderly : Orderly t) where
   late-zero : (o : Option ℕ) → late o 0 none ≡ none
   late-zero none = refl
   late-zero (some l) = refl
@@ -66,10 +80,10 @@ module _ (t : Table) (clean : Clean t) where
   -- a walk that starts at state 0 reads none
   zero-walk : (text : List ℕ) → Bytes text → walk (tableWalker t) 0 0 none text ≡ none
   unfolding tableWalker
-  zero-walk [] bytes = rw (clean .zero-steps 256 (omega arith)) (late-zero (leafOf t 0))
+  zero-walk [] bytes = rw (orderly .zero-steps 256 (omega arith)) (late-zero (leafOf t 0))
   zero-walk (b ∷ text) bytes =
       let h : b < 257 = let h′ : b < 256 = bytes 0 in omega arith in
-      rw (clean .zero-steps b h) (late-zero (leafOf t 0))
+      rw (orderly .zero-steps b h) (late-zero (leafOf t 0))
 
   table-walk : (s₀ : ℕ) → t .start ≡ some s₀ → (text : List ℕ) → Bytes text → readTable t text ≡ walk (tableWalker t) s₀ 0 none text
   unfolding readTable
@@ -85,33 +99,49 @@ module _ (t : Table) (clean : Clean t) where
     unpruned-reads s₀ st text bytes =
         let (i, n) = number-in 0 (reached t s₀) s₀ (reached-start t sh s₀ st) in
         table-walk s₀ st text bytes
-        ∙ walks-alike t (unpruned t s₀) _ (un-facts t sh s₀ st clean) text bytes s₀ i n
+        ∙ walks-alike t (unpruned t s₀) _ (un-facts t sh s₀ st orderly) text bytes s₀ i n
         ∙ ap (λ (x : ℕ). walk (graphWalker (unpruned t s₀)) x 0 none text) (sym (un-root t sh s₀ st i n))
 
-    build-reads : (text : List ℕ) → Bytes text → readTable t text ≡ readGraph (build t .graph) text
-    build-reads text bytes =
-        let (s₀, st, e) = build-clean t (clean .no-error) in
-        let w = un-root-within t sh s₀ st in
-        unpruned-reads s₀ st text bytes
-        ∙ sym (pruned-reads (unpruned t s₀) w text)
-        ∙ sym (merged-reads (pruned (unpruned t s₀)) (pruned-root (unpruned t s₀) w) text)
-        ∙ ap (λ (g : Graph). readGraph g text) (sym e)
+    module _ (no-empty : emptyLeaves t ≡ []) where
+      build-reads : (text : List ℕ) → Bytes text → readTable t text ≡ readGraph (build t .graph) text
+      unfolding readTable
+      build-reads text bytes = go (t .start) refl
+        where
+          go : (o : Option ℕ) → t .start ≡ o → readTable t text ≡ readGraph (build t .graph) text
+          go none st =
+              ap (λ (o : Option ℕ). onward none (λ s. walk (tableWalker t) s 0 none text) (startAt o)) st
+              ∙ sym (no-states-read text)
+              ∙ ap (λ (g : Graph). readGraph g text) (sym (none-built t st))
+          go (some s₀) st =
+              let w = un-root-within t sh s₀ st in
+              unpruned-reads s₀ st text bytes
+              ∙ sym (pruned-reads (unpruned t s₀) w text)
+              ∙ sym (merged-reads (pruned (unpruned t s₀)) (pruned-root (unpruned t s₀) w) text)
+              ∙ ap (λ (g : Graph). readGraph g text) (sym (start-built t no-empty s₀ st))
 
-    build-reached : (i : ℕ) → i < length (build t .graph .states) → FromRoot (build t .graph) i
-    build-reached =
-        let (s₀, st, e) = build-clean t (clean .no-error) in
-        let all = merged-path (pruned (unpruned t s₀)) (pruned-path (unpruned t s₀) (kept-reached t sh s₀ st clean)) in
-        subst (λ (g : Graph). (i : ℕ) → i < length (g .states) → FromRoot g i) (sym e) all
+      build-reached : (i : ℕ) → i < length (build t .graph .states) → FromRoot (build t .graph) i
+      build-reached = go (t .start) refl
+        where
+          go : (o : Option ℕ) → t .start ≡ o → (i : ℕ) → i < length (build t .graph .states) → FromRoot (build t .graph) i
+          go none st = λ i h. let none-below : i < 0 = subst (λ (g : Graph). i < length (g .states)) (none-built t st) h in absurd (omega arith)
+          go (some s₀) st =
+              let all = merged-path (pruned (unpruned t s₀)) (pruned-path (unpruned t s₀) (kept-reached t sh s₀ st orderly)) in
+              subst (λ (g : Graph). (i : ℕ) → i < length (g .states) → FromRoot g i) (sym (start-built t no-empty s₀ st)) all
 
--- of every legal clean table and every text: the table and the finished graph read alike
-pub readings-alike : (words : List ℕ) → refusal words ≡ 0 → Clean (tableOf words) → (text : List ℕ) → Bytes text
+-- Of every legal table that is clean but for ties, and every text: the table and the finished graph read alike. A state whose leaves tie has no
+-- leaf in either.
+pub tied-alike : (words : List ℕ) → refusal words ≡ 0 → Orderly (tableOf words) → emptyLeaves (tableOf words) ≡ [] → (text : List ℕ) → Bytes text
     → readTable (tableOf words) text ≡ readGraph (build (tableOf words) .graph) text
-readings-alike words legal clean text bytes = build-reads (tableOf words) clean (legal-shaped words legal) text bytes
+tied-alike words legal orderly no-empty text bytes = build-reads (tableOf words) orderly (legal-shaped words legal) no-empty text bytes
 
--- of every legal clean table: every state of the finished graph is reached from its root
-pub all-reached : (words : List ℕ) → refusal words ≡ 0 → Clean (tableOf words) → (i : ℕ) → i < length (build (tableOf words) .graph .states)
-    → FromRoot (build (tableOf words) .graph) i
-all-reached words legal clean i h = build-reached (tableOf words) clean (legal-shaped words legal) i h
+-- of such a table: every state of the finished graph is reached from its root
+pub tied-reached : (words : List ℕ) → refusal words ≡ 0 → Orderly (tableOf words) → emptyLeaves (tableOf words) ≡ []
+    → (i : ℕ) → i < length (build (tableOf words) .graph .states) → FromRoot (build (tableOf words) .graph) i
+tied-reached words legal orderly no-empty i h = build-reached (tableOf words) orderly (legal-shaped words legal) no-empty i h
+
+-- a clean table is such a table
+pub clean-no-empty : (t : Table) → Clean t → emptyLeaves t ≡ []
+clean-no-empty t clean = no-empties t (clean .no-error)
 
 -- ---- the same, of words
 
@@ -141,6 +171,7 @@ module _ (words : List ℕ) (legal : refusal words ≡ 0) where
       back : (i : ℕ) → i < length (built .states) → stateFrom (stateWords (stateOf built i)) ≡ stateOf built i
       back i h = state-back (getD words 2 0) (getD words 0 0) (few-leaves words legal) (few-states words legal) built fits i h
 
-  pub words-alike : Clean (tableOf words) → (rest text : List ℕ) → Bytes text
+  pub words-alike : Orderly (tableOf words) → emptyLeaves (tableOf words) ≡ [] → (rest text : List ℕ) → Bytes text
       → readTable (tableOf words) text ≡ readGraph (graphFrom (graphWords built ++ rest)) text
-  words-alike clean rest text bytes = readings-alike words legal clean text bytes ∙ ap (λ (g : Graph). readGraph g text) (sym (built-back rest))
+  words-alike orderly no-empty rest text bytes =
+      tied-alike words legal orderly no-empty text bytes ∙ ap (λ (g : Graph). readGraph g text) (sym (built-back rest))

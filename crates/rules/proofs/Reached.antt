@@ -1,38 +1,30 @@
--- Of a clean table every kept state of the unpruned graph is reached from its root. Assumes nothing.
+-- Of an orderly table every kept state of the unpruned graph is reached from its root. Assumes nothing.
 use mathlib.Core.Path.{_≡_, refl, sym, ap, subst, _∙_}
-use mathlib.Core.Bool.{true, not, _||_, false≢true}
-use mathlib.Core.List.{List, [], _∷_}
+use mathlib.Core.Bool.{true, _||_, false≢true}
+use mathlib.Core.List.{List}
 use mathlib.Core.Option.{Option, none, some}
 use mathlib.Core.Logic.{⊎-elim}
 use Prim.Native.Nat.{ℕ, zero, suc, _<_}
 use native.Mathlib.Omega.{arith}
 use borrow.Author.Tests.{eqb-true}
 use lib.Dec.{eqb}
-use lib.ListN.{length, getD, List·getD-eq-default}
+use lib.ListN.{length, List·getD-eq-default}
 use Rattle.lists.specs.Sets.{In, Reach, from-seed, by-edge}
-use Rattle.lists.specs.Lists.{anyL, eqOption, numberFrom}
+use Rattle.lists.specs.Lists.{anyL, numberFrom}
 use Rattle.lists.proofs.Closure.{in-below, closure-sound, closure-complete}
 use Rattle.lists.proofs.Bools.{or-cases, none-some, some-inj, lt-or-le}
-use Rattle.lists.proofs.Elements.{option-sound}
 use Rattle.lists.proofs.Numbering.{in-number, number-in}
+use Rattle.lists.proofs.Any.{any-found}
 use Rattle.rules.specs.Table.{Table, size, rowOf, step}
 use Rattle.rules.specs.Graph.{Graph, stateOf, to, acceptOf, earlyOf, leads, FromRoot, at-root, on-edge}
 use Rattle.rules.specs.Build.{stepsTo, reached, contenders, leafOf, edge, restrict, wholeGraph, withEarly, withCleared, unpruned, kept, marked, present}
-use Rattle.rules.specs.Read.{Clean}
+use Rattle.rules.specs.Read.{Orderly}
 use Rattle.rules.proofs.Rename.{Named, led}
 use Rattle.rules.proofs.Prune.{kept-length, restrict-onto, restrict-root}
 use Rattle.rules.proofs.Marks.{cleared-length, early-length}
 use Rattle.rules.proofs.Shape.{Shaped}
-use Rattle.rules.proofs.Unpruned.{first-root, is-any, lengths, reached-below, reached-start, un-accept, un-byte, un-leads, un-to}
-
-any-to : (l : List (Option ℕ)) (u : ℕ) → anyL (eqOption (some u)) l ≡ true → (c : ℕ) × (getD l c none ≡ some u)
-any-to [] u h = absurd (false≢true h)
-any-to (o ∷ l) u h =
-    ⊎-elim (λ e. (0, sym (option-sound .eq (some u) o e))) (λ r. let (c, e) = any-to l u r in (suc c, e)) (or-cases (eqOption (some u) o) _ h)
-
-leads-edge : (g : Graph) (s u : ℕ) → leads (stateOf g s) u ≡ true → (c : ℕ) × (to g s c ≡ some u)
-unfolding leads to
-leads-edge g s u h = any-to (stateOf g s .steps) u h
+use Rattle.rules.proofs.Unpruned.{first-root, lengths, reached-below, reached-start, un-accept, un-byte, un-leads, un-to}
+use Rattle.rules.proofs.Views.{leads-edge}
 
 present-none : (o : Option ℕ) → present o ≡ true → o ≡ none → ⊥
 present-none none h e = false≢true h
@@ -66,7 +58,7 @@ kept-below g i h = let a = in-below (kept g) i h in let b = kept-length g in ome
 -- steps of the table, and what it reaches
 step-of : (t : Table) (k s : ℕ) → anyL (eqb s) (rowOf t k .steps) ≡ true → (c : ℕ) × (c < length (rowOf t k .steps)) × (step t k c ≡ s)
 unfolding step
-step-of t k s e = is-any (rowOf t k .steps) s e
+step-of t k s e = let (c, b, q) = any-found (eqb s) 0 (rowOf t k .steps) e in (c, b, sym (eqb-true s _ q))
 
 in-reached : (t : Table) (s₀ s : ℕ) → Reach (stepsTo t) (size t) (eqb s₀) s → In (reached t s₀) s
 unfolding reached
@@ -103,17 +95,17 @@ module _ (t : Table) (sh : Shaped t) (s₀ : ℕ) (st : t .start ≡ some s₀) 
   un-onto : (i : ℕ) → i < length (unpruned t s₀ .states) → (s : ℕ) × Named names s i
   un-onto i h = restrict-onto (wholeGraph t s₀) (reached t s₀) (lengths t sh s₀ st) i (rw un-length at h)
 
-  module _ (clean : Clean t) where
+  module _ (orderly : Orderly t) where
     zero-leaf : leafOf t 0 ≡ none
     unfolding leafOf contenders
-    zero-leaf = rw (clean .zero-chain)
+    zero-leaf = rw (orderly .zero-chain)
 
     zero-edge : 0 < size t → (c : ℕ) → edge (step t 0 c) ≡ none
     unfolding step
     zero-edge h c =
         ap edge
         (⊎-elim
-        (λ b. clean .zero-steps c b)
+        (λ b. orderly .zero-steps c b)
         (λ b. let w = sh .width 0 h in List·getD-eq-default (rowOf t 0 .steps) 0 (omega arith))
         (lt-or-le c 257))
 
@@ -133,7 +125,7 @@ module _ (t : Table) (sh : Shaped t) (s₀ : ℕ) (st : t .start ≡ some s₀) 
             let e′ : edge (step t k c) ≡ some s = ap edge q ∙ edge-of s z in
             let (i′, m′, e″) = un-leads t sh s₀ st k j c s m c′ e′ in
             let d : i′ ≡ i = some-inj (sym m′ ∙ n) in
-            on-edge (ih (λ k0. z (sym q ∙ ap (λ (x : ℕ). step t x c) k0 ∙ clean .zero-steps c c′)) j m) c (e″ ∙ ap {B = Option ℕ} some d)
+            on-edge (ih (λ k0. z (sym q ∙ ap (λ (x : ℕ). step t x c) k0 ∙ orderly .zero-steps c c′)) j m) c (e″ ∙ ap {B = Option ℕ} some d)
 
     -- state 0 has no marks and no edges: it is kept only as the root
     zero-kept : (i : ℕ) → Named names 0 i → In (kept g) i → FromRoot g i

@@ -86,5 +86,5 @@ module _ (g : Graph) (names : List (Option ℕ)) (rest : List State)
     pub relabel-path : (s : ℕ) → FromRoot g s → (i : ℕ) → Named names s i → FromRoot new i
     relabel-path s at-root i h = subst (FromRoot new) (new-root i h) at-root
     relabel-path s (on-edge {s = p} {u = u} f c e) i h =
-        let (j, n) = back p c u i e h in
-        on-edge (relabel-path p f j n) c (new-to p j n c ∙ ap (led names) e ∙ h)
+        let (j, n) = back p _ u i e h in
+        on-edge (relabel-path p f j n) c (new-to p j n _ ∙ ap (led names) e ∙ h)

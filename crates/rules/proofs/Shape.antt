@@ -2,12 +2,12 @@
 use mathlib.Core.Path.{_≡_, refl, sym, ap, subst, _∙_}
 use mathlib.Core.Bool.{Bool, true, false, false≢true}
 use mathlib.Core.List.{List, [], _∷_}
-use mathlib.Core.Option.{some}
+use mathlib.Core.Option.{none, some}
 use mathlib.Core.Logic.{⊎-elim}
 use Prim.Native.Nat.{ℕ, zero, suc, _+_, _*_, _≤_, _<_}
 use native.Mathlib.Nat.{not-suc-le-zero, le-of-suc-le-suc, mul-suc}
 use native.Mathlib.Omega.{arith}
-use borrow.Author.Tests.{eqb-true, eqb-false, ltb-true, leb-true}
+use borrow.Author.Tests.{eq-eqb, ne-eqb, eqb-true, eqb-false, ltb-true, leb-true}
 use lib.Dec.{eqb, leb, ltb}
 use lib.ListN.{length, getD, take, drop, length-map, length-drop, List·getD-eq-default}
 use lib.Seq.{length-take-le}
@@ -23,6 +23,17 @@ pub record Shaped (t : Table) : Type 0 where
   pub start-below : (s : ℕ) → t .start ≡ some s → s < size t
   pub width : (s : ℕ) → s < size t → length (rowOf t s .steps) ≡ 257
   pub step-below : (s c : ℕ) → s < size t → step t s c < size t
+
+-- ---- the start
+
+module _ (w : List ℕ) where
+  pub start-none : getD w 1 0 ≡ 65535 → tableOf w .start ≡ none
+  unfolding tableOf
+  start-none e = rw (eq-eqb (getD w 1 0) 65535 e, tableOf)
+
+  pub start-some : (getD w 1 0 ≡ 65535 → ⊥) → tableOf w .start ≡ some (getD w 1 0)
+  unfolding tableOf
+  start-some n = rw (ne-eqb (getD w 1 0) 65535 n, tableOf)
 
 -- ---- legal words
 

@@ -1,29 +1,20 @@
 -- What graph words have that refusal 12 takes. Assumes nothing.
-use mathlib.Core.Path.{_≡_, refl, sym, ap, subst, _∙_}
-use mathlib.Core.Bool.{Bool, true, false, cond, _&&_, _||_, false≢true}
-use mathlib.Core.List.{List, [], _∷_, map}
-use mathlib.Core.Option.{Option, none, some}
+use mathlib.Core.Path.{_≡_, sym, subst, _∙_}
+use mathlib.Core.Bool.{true, _||_}
+use mathlib.Core.List.{List, []}
 use mathlib.Core.Logic.{_⊎_, inl, inr, ⊎-elim}
-use Prim.Native.Nat.{ℕ, zero, suc, _+_, _*_, _≤_, _<_}
+use Prim.Native.Nat.{ℕ, _+_, _*_, _≤_, _<_}
 use native.Mathlib.Omega.{arith}
-use borrow.Author.Tests.{eqb-true, eqb-false, leb-true, ltb-true}
+use borrow.Author.Tests.{eqb-true, leb-true, ltb-true}
 use lib.Dec.{eqb, leb, ltb}
 use lib.ListN.{length, getD, take, drop}
 use lib.Seq.{length-take-le, getD-take}
 use Rattle.lists.specs.Lists.{allL, pieces}
-use Rattle.lists.proofs.Bools.{and-both, or-cases, Is, is, yes-is, no-is, none-some, some-inj}
+use Rattle.lists.proofs.Bools.{and-both, or-cases, is}
 use Rattle.lists.proofs.Elements.{all-at}
 use Rattle.lists.proofs.Pieces.{pieces-length, piece-word}
-use Rattle.rules.specs.Graph.{Graph, to, orNone, graphFrom, graphFits}
-use Rattle.rules.proofs.Flat.{piece-length, from-to}
-
--- a word that is not the one for none is the number
-or-none : (word x u : ℕ) → orNone word x ≡ some u → (x ≡ u) × (x ≡ word → ⊥)
-or-none word x u e = go (is (eqb x word))
-  where
-    go : Is (eqb x word) → (x ≡ u) × (x ≡ word → ⊥)
-    go (yes-is q) = absurd (none-some (rw q at e))
-    go (no-is q) = (some-inj (rw q at e), eqb-false x word q)
+use Rattle.rules.specs.Graph.{graphFits}
+use Rattle.rules.proofs.Flat.{piece-length}
 
 module _ (w : List ℕ) (taken : graphFits w ≡ true) where
   abbrev n : ℕ

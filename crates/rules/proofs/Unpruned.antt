@@ -1,25 +1,26 @@
--- The unpruned graph (rules 2 to 6) of a table: the three facts of `Alike` hold of it where the table is clean. Assumes nothing.
+-- The unpruned graph (rules 2 to 6) of a table: the three facts of `Alike` hold of it where the table is orderly. Assumes nothing.
 use mathlib.Core.Path.{_≡_, refl, sym, ap, subst, _∙_}
-use mathlib.Core.Bool.{true, false≢true}
-use mathlib.Core.List.{List, [], _∷_, map}
+use mathlib.Core.Bool.{true}
+use mathlib.Core.List.{List, map}
 use mathlib.Core.Option.{Option, none, some}
 use mathlib.Core.Logic.{_⊎_, inl, inr, ⊎-elim}
-use Prim.Native.Nat.{ℕ, zero, suc, _≤_, _<_, suc-le-suc}
-use native.Mathlib.Nat.{not-suc-le-zero, le-of-suc-le-suc, eq-or-lt-of-le}
+use Prim.Native.Nat.{ℕ, zero, suc, _≤_, _<_}
+use native.Mathlib.Nat.{le-of-suc-le-suc, eq-or-lt-of-le}
 use native.Mathlib.Omega.{arith}
-use borrow.Author.Tests.{eq-eqb, eqb-true}
+use borrow.Author.Tests.{eq-eqb}
 use lib.Dec.{eqb}
 use lib.ListN.{length, getD, length-map, List·getD-map}
 use Rattle.lists.specs.Sets.{In}
-use Rattle.lists.specs.Lists.{below, anyL, select, numberFrom}
+use Rattle.lists.specs.Lists.{below, select, numberFrom}
 use Rattle.lists.proofs.Closure.{in-below, closure-length, closure-seed, closure-closed}
 use Rattle.lists.proofs.Elements.{getD-tab0, length-tab, map-at}
-use Rattle.lists.proofs.Bools.{or-left, or-right, or-cases, none-some, some-inj}
+use Rattle.lists.proofs.Bools.{none-some, some-inj}
 use Rattle.lists.proofs.Numbering.{in-number, number-in}
+use Rattle.lists.proofs.Any.{any-at}
 use Rattle.rules.specs.Table.{Table, size, rowOf, step}
 use Rattle.rules.specs.Graph.{State, Graph, blank, stateOf, to, acceptOf, earlyOf}
 use Rattle.rules.specs.Build.{stepsTo, reached, renamed, restrict, leafOf, edge, firstState, wholeGraph, withEarly, covered, unpruned}
-use Rattle.rules.specs.Read.{Clean}
+use Rattle.rules.specs.Read.{Orderly}
 use Rattle.rules.proofs.Rename.{Named, led, new-accept, new-root, new-to, relabel-state}
 use Rattle.rules.proofs.Prune.{restrict-found, restrict-length, restrict-placed}
 use Rattle.rules.proofs.Marks.{cleared-accept, cleared-early, cleared-to, covered-parent, early-accept, early-byte, early-end, early-length, early-to}
@@ -31,19 +32,6 @@ use Rattle.rules.proofs.Alike.{Facts}
 pub edge-is : (x u : ℕ) → edge x ≡ some u → x ≡ u
 edge-is zero u e = absurd (none-some e)
 edge-is (suc x) u e = some-inj e
-
-any-is : (l : List ℕ) (c : ℕ) → c < length l → anyL (eqb (getD l c 0)) l ≡ true
-any-is [] c h = absurd (not-suc-le-zero h)
-any-is (x ∷ l) zero h = or-left _ _ (eq-eqb x x refl)
-any-is (x ∷ l) (suc c) h = or-right (eqb (getD l c 0) x) _ (any-is l c (le-of-suc-le-suc h))
-
-pub is-any : (l : List ℕ) (u : ℕ) → anyL (eqb u) l ≡ true → (c : ℕ) × (c < length l) × (getD l c 0 ≡ u)
-is-any [] u h = absurd (false≢true h)
-is-any (x ∷ l) u h =
-    ⊎-elim
-    (λ e. (0, suc-le-suc Prim.Native.Nat.zero-le, sym (eqb-true u x e)))
-    (λ r. let (c, b, e) = is-any l u r in (suc c, suc-le-suc b, e))
-    (or-cases (eqb u x) (anyL (eqb u) l) h)
 
 module _ (t : Table) (sh : Shaped t) (s₀ : ℕ) (st : t .start ≡ some s₀) where
   -- ---- rule 2
@@ -64,7 +52,7 @@ module _ (t : Table) (sh : Shaped t) (s₀ : ℕ) (st : t .start ≡ some s₀) 
   reached-step s c h b =
       let w = sh .width s (reached-below s h) in
       closure-closed (stepsTo t) (size t) (eqb s₀) s (step t s c) h (sh .step-below s c (reached-below s h))
-      (any-is (rowOf t s .steps) c (omega arith))
+      (any-at (eqb (step t s c)) 0 (rowOf t s .steps) c (omega arith) (eq-eqb (step t s c) (step t s c) refl))
 
   abbrev pub names : List (Option ℕ)
   names = numberFrom 0 (reached t s₀)
@@ -177,7 +165,7 @@ module _ (t : Table) (sh : Shaped t) (s₀ : ℕ) (st : t .start ≡ some s₀) 
       let (u, e′, m) = from-to s i b j n e in
       (u, e′, sym (first-accept u j m) ∙ a)
 
-  module _ (clean : Clean t) where
+  module _ (orderly : Orderly t) where
     un-end : (s i l : ℕ) → Named names s i → earlyOf (unpruned t s₀) i ≡ some l → (u : ℕ) × (edge (step t s 256) ≡ some u) × (leafOf t u ≡ some l)
     un-end s i l n q = go (step t s 256) refl
       where
@@ -185,7 +173,7 @@ module _ (t : Table) (sh : Shaped t) (s₀ : ℕ) (st : t .start ≡ some s₀) 
         all b h = let (u, e, a) = un-byte s i l b n q h in ap (leafOf t) (edge-is _ u e) ∙ a
 
         go : (x : ℕ) → step t s 256 ≡ x → (u : ℕ) × (edge (step t s 256) ≡ some u) × (leafOf t u ≡ some l)
-        go zero e = absurd (clean .end-too s₀ s l st (named-in s i n) all e)
+        go zero e = absurd (orderly .end-too s₀ s l st (named-in s i n) all e)
         go (suc u) e =
             let e′ : edge (step t s 256) ≡ some (suc u) = ap edge e in
             let (j, m, e″) = un-leads s i 256 (suc u) n (omega arith) e′ in

@@ -1,14 +1,12 @@
 -- The views of a graph: a number that no state has, and edges. Assumes nothing.
 use mathlib.Core.Path.{_≡_, sym, ap, _∙_}
 use mathlib.Core.Bool.{true}
-use mathlib.Core.List.{List, [], _∷_}
-use mathlib.Core.Option.{Option, none, some}
+use mathlib.Core.Option.{none, some}
 use mathlib.Core.Logic.{⊎-elim}
-use Prim.Native.Nat.{ℕ, zero, suc, _≤_, _<_}
+use Prim.Native.Nat.{ℕ, _≤_, _<_}
 use lib.ListN.{length, getD, List·getD-eq-default}
-use Rattle.lists.specs.Lists.{anyL, eqOption}
-use Rattle.lists.proofs.Bools.{or-left, or-right, none-some, lt-or-le}
-use Rattle.lists.proofs.Elements.{option-sound}
+use Rattle.lists.proofs.Any.{option-any, any-option}
+use Rattle.lists.proofs.Bools.{none-some, lt-or-le}
 use Rattle.rules.specs.Graph.{State, Graph, blank, stateOf, to, acceptOf, earlyOf, leads}
 use Rattle.rules.specs.Read.{graphWalker}
 use Rattle.rules.proofs.Walks.{Quiet, graph-quiet}
@@ -40,11 +38,10 @@ edge-within g s c u e = ⊎-elim (λ h. h) (λ h. absurd (none-some (sym (out-to
 
 -- ---- an edge, as a number in the row
 
-any-at : (l : List (Option ℕ)) (c u : ℕ) → getD l c none ≡ some u → anyL (eqOption (some u)) l ≡ true
-any-at [] c u e = absurd (none-some e)
-any-at (o ∷ l) zero u e = or-left _ _ (ap (eqOption (some u)) e ∙ option-sound .self (some u))
-any-at (o ∷ l) (suc c) u e = or-right (eqOption (some u) o) _ (any-at l c u e)
-
 pub edge-leads : (g : Graph) (s c u : ℕ) → to g s c ≡ some u → leads (stateOf g s) u ≡ true
 unfolding to leads
-edge-leads g s c u e = any-at (stateOf g s .steps) c u e
+edge-leads g s c u e = option-any (stateOf g s .steps) c u e
+
+pub leads-edge : (g : Graph) (s u : ℕ) → leads (stateOf g s) u ≡ true → (c : ℕ) × (to g s c ≡ some u)
+unfolding to leads
+leads-edge g s u h = any-option (stateOf g s .steps) u h

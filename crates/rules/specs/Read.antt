@@ -80,12 +80,16 @@ readGraph g text = walk (graphWalker g) (g .root) 0 none text
 
 -- ---- clean
 
-pub record Clean (t : Table) : Type 0 where
-  -- "no error in the build"
-  pub no-error : build t .errors ≡ []
+-- what a clean table is, conflicts aside
+pub record Orderly (t : Table) : Type 0 where
   -- "state 0 has an empty chain and all its steps lead to 0", reached or not
   pub zero-chain : chain t 0 ≡ []
   pub zero-steps : (c : ℕ) → c < 257 → step t 0 c ≡ 0
   -- "a reached state whose 256 byte steps all lead to states of one same leaf has an end step to a state other than 0"
   pub end-too : (s₀ s l : ℕ) → t .start ≡ some s₀ → In (reached t s₀) s
       → ((b : ℕ) → b < 256 → leafOf t (step t s b) ≡ some l) → step t s 256 ≡ 0 → ⊥
+
+pub record Clean (t : Table) : Type 0 where
+  -- "no error in the build"
+  pub no-error : build t .errors ≡ []
+  pub orderly : Orderly t

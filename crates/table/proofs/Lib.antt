@@ -9,7 +9,6 @@ pub mod Ascents
 pub mod Conflicts
 pub mod NewRows
 pub mod FirstRows
-pub mod FirstFits
 pub mod Slotted
 pub mod Orders
 pub mod Listing

@@ -1,3 +1,4 @@
 pub mod PastEnd
 pub mod Equal
 pub mod Rest
+pub mod Spread

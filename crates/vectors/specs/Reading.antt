@@ -5,7 +5,7 @@ use Prim.Native.Nat.{ℕ, _+_, _*_, _/_, _%_}
 use lib.Dec.{leb}
 use lib.ListN.{length, getD, take, drop}
 use Rattle.lists.specs.Lists.{tab}
-use Rattle.classes.specs.Masks.{isSet}
+use Rattle.bits.specs.Bits.{isSet}
 
 abbrev pub byteAt : List ℕ → ℕ → ℕ
 byteAt list at = getD list at 0

@@ -1,5 +1,5 @@
-// Stored lists of answers (docs/ORACLE.md, "Stored lists"), for the programs that replay them: numbers read from a list, and what a replay
-// counts and prints.
+// Stored lists of answers (docs/ORACLE.md, "Stored lists"), for the programs that replay them: numbers and words read from a list, and
+// what a replay counts and prints.
 //
 // A list is a slice of bytes. A reader takes any place: what lies past the end is 0. A place never passes one byte past the end, so that a list
 // that ends too early is told from one that is read whole. What each reader answers is defined in specs/Reading.antt.
@@ -10,6 +10,7 @@ ghost use lib.ListN.{length};
 ghost use Rattle.vectors.specs.Reading.{byteAt, halfAt, wordAt, bitAt, flagsAt, partAt};
 
 pub mod parts;
+pub mod runs;
 pub mod tally;
 
 // The byte at a place.
@@ -64,7 +65,7 @@ pub fn after(list: &[u8], at: usize, n: usize) -> usize
 pub fn bit(list: &[u8], at: usize, i: usize) -> bool
     ensures { λ r. ⌜ r ≡ bitAt (now (list .entry)) at i ⌝ }
 {
-    classes::masks::test_bit(byte(list, after(list, at, i / 8)), i % 8)
+    bits::test_bit(byte(list, after(list, at, i / 8)), i % 8)
 }
 
 // The 256 flags of the class at a place: 32 bytes.

@@ -2,8 +2,8 @@
 
 use super::{built, Case};
 use crate::random::Random;
-use crate::tables::cases::random_table;
-use crate::tables::checked;
+use crate::tables::cases::{dense, layered, many_rounds, random_table, wild};
+use crate::tables::{checked, Leaf, Table};
 
 /// A case of a table under buffers that suffice, with some words to spare.
 pub fn sufficing(random: &mut Random, table: Vec<u16>) -> Case {
@@ -60,6 +60,53 @@ pub fn damaged(random: &mut Random, mut table: Vec<u16>) -> Vec<u16> {
     table
 }
 
+/// Leaves of one priority or two, in a few chains that states share: ties of up to 255 leaves, equal ones, and chains that differ late.
+fn tied(random: &mut Random) -> Table {
+    let states = random.within(3, 40);
+    let mut table = wild(random, states);
+    let leaves = random.pick(&[2, 3, 5, 40, 255]);
+    let pool: &[u32] = if random.percent(50) { &[7] } else { &[7, 7, 7, 65_543] };
+    table.leaves = (0..leaves).map(|_| Leaf { priority: random.pick(pool), empty: false }).collect();
+    table.records.clear();
+    let share = random.pick(&[10, 50, 95]);
+    let heads = (0..random.within(1, 6))
+        .map(|_| {
+            let chosen = (0..leaves).filter(|_| random.percent(share)).collect::<Vec<_>>();
+            table.chain(&chosen)
+        })
+        .collect::<Vec<_>>();
+    for state in 0..states {
+        let leads_on = table.states[state].targets.iter().any(|&target| target != 0);
+        table.states[state].head = if state > 0 || leads_on { random.pick(&heads) } else { 0 };
+    }
+    table
+}
+
+/// Each state leads to the next one, so that all but state 0 are reached, and most stay apart.
+fn connected(random: &mut Random, states: usize) -> Table {
+    let mut table = wild(random, states);
+    let byte = usize::from(random.byte());
+    for state in 1..states - 1 {
+        table.states[state].targets[byte] = state as u16 + 1;
+    }
+    table.start = 1;
+    table
+}
+
+/// Tables of kinds that `random_table` has seldom or never: the largest, every byte of many states for itself, hundreds of rounds, many ties.
+fn rare_table(random: &mut Random) -> Table {
+    let [middling, some, rounds] = [(31, 300), (1000, 1024), (135, 510)].map(|(least, most)| random.within(least, most));
+    let large = if random.percent(50) { 1024 } else { some };
+    match random.below(12) {
+        0 => dense(random, middling),
+        1 => wild(random, large),
+        2 => layered(random, large),
+        3 => many_rounds(rounds, random.percent(50)),
+        4 | 5 => connected(random, large),
+        _ => tied(random),
+    }
+}
+
 pub fn random_case(random: &mut Random) -> Case {
     let most = match random.below(100) {
         0..=59 => 6,
@@ -67,7 +114,7 @@ pub fn random_case(random: &mut Random) -> Case {
         92..=98 => 126,
         _ => 1024,
     };
-    let mut table = random_table(random, most).words();
+    let mut table = if random.percent(5) { rare_table(random) } else { random_table(random, most) }.words();
     if random.percent(25) {
         table = damaged(random, table);
     }

@@ -19,7 +19,7 @@ pub fn k1(leaves: usize) -> Table {
 }
 
 /// Document 01's K14: two states with one tie.
-fn k14() -> Table {
+pub fn k14() -> Table {
     let mut table = k1(2);
     table.states.push(table.states[3].clone());
     table.states[2].end = 4;
@@ -27,7 +27,7 @@ fn k14() -> Table {
 }
 
 /// Ties of several leaves on states that the start leads to in another order than the errors are sorted in.
-fn ties() -> Table {
+pub fn ties() -> Table {
     let mut table = k1(4);
     let chains: [&[usize]; 8] = [&[0, 1, 2], &[2, 3], &[0, 2], &[0, 1], &[0, 1, 2, 3], &[1, 3], &[0, 1], &[3]];
     for (number, chain) in chains.iter().enumerate() {

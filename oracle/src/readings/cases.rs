@@ -1,6 +1,7 @@
 //! Random texts for tables and graphs.
 
 use super::Case;
+use crate::builds::damaged;
 use crate::display;
 use crate::graphs::{self, NONE};
 use crate::random::Random;
@@ -48,8 +49,11 @@ pub fn random_case(random: &mut Random) -> Case {
     let longest = random.pick(&[0, 3, 12, 40]);
     if random.percent(60) {
         let most = random.pick(&[4, 8, 20, 60]);
-        let table = random_table(random, most).words();
+        let mut table = random_table(random, most).words();
         let text = text_for_table(random, &table, longest);
+        if random.percent(10) {
+            table = damaged(random, table);
+        }
         return Case::Table { table, text };
     }
     let graph = display::random_case(random).graph;

@@ -1,7 +1,7 @@
 -- `bit` meets its contract: the byte that it tests is the one at i / 8, also where the place is held back at the end. Assumes nothing.
 use mathlib.Core.Path.{ap, _∙_}
 use Prim.Native.Nat.{_+_, _/_, _%_}
-use Rattle.classes.specs.Masks.{isSet}
+use Rattle.bits.specs.Bits.{isSet}
 use Rattle.vectors.specs.Reading.{byteAt}
 use Rattle.vectors.proofs.PastEnd.{byte-held}
 use borrow.Author.Needs.{needs}

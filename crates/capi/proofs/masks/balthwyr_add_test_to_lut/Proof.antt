@@ -4,8 +4,8 @@ use borrow.Author.Needs.{needs}
 use mathlib.Core.Path.{_≡_, sym, ap, _∙_}
 use native.Mathlib.Omega.{arith}
 use lib.ListN.{length}
-use Rattle.classes.specs.declared.masks.Added.{Added}
-use Rattle.classes.specs.Masks.{addTold}
+use Rattle.mask_store.specs.declared.Added.{Added}
+use Rattle.mask_store.specs.Masks.{addTold}
 use Rattle.capi.specs.Lent.{flagsOf}
 use Rattle.capi.specs.Stores.{addTo}
 use Rattle.capi.proofs.Blocks.{sets-whole}

@@ -4,8 +4,8 @@ use borrow.Author.Needs.{needs}
 use mathlib.Core.Path.{_≡_, sym, ap, _∙_}
 use Prim.Native.Nat.{ℕ}
 use mathlib.Core.List.{List}
-use Rattle.classes.specs.declared.masks.MaskStore.{MaskStore}
-use Rattle.classes.specs.Masks.{storeOf, render}
+use Rattle.mask_store.specs.declared.MaskStore.{MaskStore}
+use Rattle.mask_store.specs.Masks.{storeOf, render}
 use Rattle.capi.specs.Lent.{Put, put}
 use Rattle.capi.specs.Stores.{flat}
 use Rattle.capi.proofs.Blocks.{put-parts}

@@ -1,7 +1,7 @@
 -- `masks::store_number` meets its contract: what is stored is what `addTold` tells of the answer's variant. Assumes nothing.
 use borrow.Author.Needs.{needs}
 use mathlib.Core.Path.{ap}
-use Rattle.classes.specs.Masks.{addTold}
+use Rattle.mask_store.specs.Masks.{addTold}
 use Rattle.capi.proofs.masks.store_number.Statement.{statement}
 use Rattle.capi.proofs.masks.store_number.Tie as tie
 

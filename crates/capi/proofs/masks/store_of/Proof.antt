@@ -4,7 +4,7 @@ use mathlib.Core.Path.{sym, ap, _∙_}
 use mathlib.Core.List.{List}
 use Prim.Native.Nat.{ℕ}
 use lib.ListN.{length-replicate, replicate}
-use Rattle.classes.specs.Masks.{storeOf}
+use Rattle.mask_store.specs.Masks.{storeOf}
 use Rattle.capi.proofs.Blocks.{sets-whole}
 use Rattle.capi.proofs.masks.store_of.Statement.{statement}
 use Rattle.capi.proofs.masks.store_of.Tie as tie

@@ -21,7 +21,7 @@ returns : tie.Need-returns
 returns c = ap scanTold (c .before .answer .given .1)
 
 returns-2 : tie.Need-returns-2
-returns-2 c = search needs
+returns-2 c = ap scanTold (c .before .answer2 .given .1)
 
 returns-3 : tie.Need-returns-3
 returns-3 c = search needs

@@ -8,7 +8,8 @@ use Rattle.classes.specs.Classes.{Class}
 use Rattle.rules.specs.Graph.{State, stateOf, graphFrom}
 use Rattle.rules.proofs.Taken.{taken-long, taken-few}
 use Rattle.display.specs.Text.{bytes, Counts}
-use Rattle.display.specs.Display.{classTo, edgeLine}
+use Rattle.display.specs.Display.{edgeLine}
+use Rattle.edges.specs.Edges.{classTo}
 use Rattle.display.proofs.Runs.{Underway, wrote-as, wrote-length, starts, ends, goes, underway-as, part-counts}
 use Rattle.display.proofs.Lines.{lined, lined-all, lined-edge, lined-skip, lined-none}
 use Rattle.display.proofs.state.edge_lines.Statement.{statement}

@@ -1,27 +1,25 @@
-use Rattle.rules.specs.Graph.{orNone}
-use mathlib.Core.Path.{_≡_, refl, sym, ap, _∙_}
-use native.Mathlib.Omega.{arith}
-use Rattle.graph.proofs.Turn.{late-none, late-zero, late-back}
+-- By whether there is an accept, and whether a byte has been passed: as before, or the match one byte late. Assumes nothing.
+use mathlib.Core.Path.{sym, _∙_}
 use borrow.Author.Needs.{needs}
+use Rattle.rules.specs.Graph.{orNone}
+use Rattle.graph.proofs.Turn.{recorded-some, late-none, late-zero, late-back}
 use Rattle.graph.proofs.read.accepted.Statement.{statement}
 use Rattle.graph.proofs.read.accepted.Tie as tie
 use Rattle.graph.proofs.read.accepted.Reads as reads
 use Rattle.graph.proofs.read.accepted.Lts as lts
 
 returns : tie.Need-returns
-returns c =
-    sym (late-none _ _ _ (c .if1 .taken))
+returns c = sym (late-none _ _ _ (c .if1 .taken))
 
 returns-2 : tie.Need-returns-2
-returns-2 c =
-    let a = c .before .before .args in sym (late-zero (orNone 255 (a .accept)) _ _ (c .if2 .taken))
+returns-2 c = let a = c .before .before .args in sym (late-zero (orNone 255 (a .accept)) _ _ (c .if2 .taken))
 
 sub-t5 : tie.Need-sub-t5
 sub-t5 c = search needs
 
 returns-3 : tie.Need-returns-3
 returns-3 c =
-    sym (late-back _ _ _ (c .before .if1 .left) (c .if2 .left))
+    let n = c .before .if1 .left in recorded-some _ _ n ∙ sym (late-back _ _ _ n (c .if2 .left))
 
 pub accepted-spec : {M : Type 1} → statement M
 accepted-spec = tie.close (tie.spec returns returns-2 sub-t5 returns-3)

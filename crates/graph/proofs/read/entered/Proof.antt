@@ -1,10 +1,9 @@
+-- By whether there is an early leaf. Assumes nothing.
+use mathlib.Core.Path.{sym, _∙_}
 use Prim.Native.Nat.{_/_, _%_}
+use borrow.Author.Needs.{needs}
 use Rattle.graph.specs.Answers.{recorded}
-use mathlib.Core.Path.{_≡_, refl, sym, ap, _∙_}
-use native.Mathlib.Omega.{arith}
-use borrow.Author.Needs.{needs}
-use Rattle.graph.proofs.Turn.{mark-none, mark-some}
-use borrow.Author.Needs.{needs}
+use Rattle.graph.proofs.Turn.{recorded-some, mark-none, mark-some}
 use Rattle.graph.proofs.read.entered.Statement.{statement}
 use Rattle.graph.proofs.read.entered.Tie as tie
 use Rattle.graph.proofs.read.entered.Reads as reads
@@ -16,11 +15,11 @@ accepted-requires c κs = search needs
 
 returns : tie.Need-returns
 returns c =
-    let a = c .before .before .args in c .accepted .ensures ∙ sym (mark-none (a .marks / 256) (a .marks % 256) (a .k) (recorded (a .r .found) (a .r .leaf) (a .r .end)) (c .before .if1 .taken))
+    let a = c .before .before .args in c .accepted .ensures ∙ sym (mark-none (a .marks / 256) (a .marks % 256) (a .k) (recorded (a .r .leaf) (a .r .end)) (c .before .if1 .taken))
 
 returns-2 : tie.Need-returns-2
 returns-2 c =
-    let a = c .before .args in sym (mark-some (a .marks / 256) (a .marks % 256) (a .k) (recorded (a .r .found) (a .r .leaf) (a .r .end)) (c .if1 .left))
+    let a = c .before .args in recorded-some _ _ (c .if1 .left) ∙ sym (mark-some (a .marks / 256) (a .marks % 256) (a .k) (recorded (a .r .leaf) (a .r .end)) (c .if1 .left))
 
 pub entered-spec : {M : Type 1} → statement M
 entered-spec = tie.close (tie.spec accepted-requires returns returns-2)

@@ -26,7 +26,7 @@ use Rattle.words.proofs.word.Reads as word-reads
 abbrev Inv-loop : tie.InvT-loop
 Inv-loop graph text r₀ s₀ k₀ r s k =
     (s < getD graph 0 0) × (getD graph 0 0 ≤ 1024) × (2 + 258 * getD graph 0 0 ≤ length graph) × (k ≤ length text)
-    × (rest graph text s k (recorded (r .found) (r .leaf) (r .end)) ≡ readGraph (graphFrom graph) text)
+    × (rest graph text s k (recorded (r .leaf) (r .end)) ≡ readGraph (graphFrom graph) text)
 
 abbrev μ-loop : tie.MeasureT-loop
 μ-loop graph text r₀ s₀ k₀ r s k = length text - k
@@ -75,7 +75,7 @@ returns-2 c =
     let l = c .before .before .before .before .before .before .loop in
     let by = c .before .before .byte in
     loop-stops (a .args .graph .now) (a .args .text .now) (a .pre) (l .s) (l .k) (c .before .before .before .before .word3 .result) (c .before .word4 .result)
-    (recorded (l .r .found) (l .r .leaf) (l .r .end)) (recorded (c .before .before .before .entered .result .found) (c .before .before .before .entered .result .leaf) (c .before .before .before .entered .result .end)) _
+    (recorded (l .r .leaf) (l .r .end)) (recorded (c .before .before .before .entered .result .leaf) (c .before .before .before .entered .result .end)) _
     (l .inv .0) (l .inv .4) (c .before .before .before .before .word3 .ensures .0) (c .before .before .before .entered .ensures) (by .result) (c .before .before .before .before .before .loop-test .taken) (by .ensures .0) (by .ensures .1) (c .before .word4 .ensures .0) (c .if2 .taken)
 
 add-k : tie.Need-add-k Inv-loop μ-loop
@@ -90,13 +90,13 @@ loop-again c =
     let l = c .before .before .before .before .before .before .loop in
     let by = c .before .before .byte in (
       loop-below (a .args .graph .now) (a .args .text .now) (a .pre) (l .s) (l .k) (c .before .before .before .before .word3 .result) (c .before .word4 .result)
-          (recorded (l .r .found) (l .r .leaf) (l .r .end)) (recorded (c .before .before .before .entered .result .found) (c .before .before .before .entered .result .leaf) (c .before .before .before .entered .result .end)) _
+          (recorded (l .r .leaf) (l .r .end)) (recorded (c .before .before .before .entered .result .leaf) (c .before .before .before .entered .result .end)) _
           (l .inv .0) (l .inv .4) (c .before .before .before .before .word3 .ensures .0) (c .before .before .before .entered .ensures) (by .result) (c .before .before .before .before .before .loop-test .taken) (by .ensures .0) (by .ensures .1) (c .before .word4 .ensures .0) (c .if2 .left),
       l .inv .1,
       l .inv .2,
       omega arith,
       loop-goes (a .args .graph .now) (a .args .text .now) (a .pre) (l .s) (l .k) (c .before .before .before .before .word3 .result) (c .before .word4 .result)
-          (recorded (l .r .found) (l .r .leaf) (l .r .end)) (recorded (c .before .before .before .entered .result .found) (c .before .before .before .entered .result .leaf) (c .before .before .before .entered .result .end)) _
+          (recorded (l .r .leaf) (l .r .end)) (recorded (c .before .before .before .entered .result .leaf) (c .before .before .before .entered .result .end)) _
           (l .inv .0) (l .inv .4) (c .before .before .before .before .word3 .ensures .0) (c .before .before .before .entered .ensures) (by .result) (c .before .before .before .before .before .loop-test .taken) (by .ensures .0) (by .ensures .1) (c .before .word4 .ensures .0) (c .if2 .left),
     )
 
@@ -116,7 +116,7 @@ returns-3 c =
     let e = c .before .before .entered2 in
     let d : length (a .args .text .now) ≤ l .k = omega arith in
     last-stops (a .args .graph .now) (a .args .text .now) (a .pre) (l .s) (l .k) (c .before .before .before .word5 .result) (c .before .word6 .result)
-    (recorded (l .r .found) (l .r .leaf) (l .r .end)) (recorded (e .result .found) (e .result .leaf) (e .result .end)) _
+    (recorded (l .r .leaf) (l .r .end)) (recorded (e .result .leaf) (e .result .end)) _
     (l .inv .0) (l .inv .4) (c .before .before .before .word5 .ensures .0) (e .ensures) (c .before .word6 .ensures .0) d (c .if3 .taken)
 
 word-requires-7 : tie.Need-word-requires-7 Inv-loop μ-loop
@@ -125,7 +125,7 @@ word-requires-7 c κs =
     let l = c .before .before .before .before .before .loop in
     let e = c .before .before .entered2 in
     let t = last-below (a .args .graph .now) (a .args .text .now) (a .pre) (l .s) (l .k) (c .before .before .before .word5 .result) (c .before .word6 .result)
-    (recorded (l .r .found) (l .r .leaf) (l .r .end)) (recorded (e .result .found) (e .result .leaf) (e .result .end)) _
+    (recorded (l .r .leaf) (l .r .end)) (recorded (e .result .leaf) (e .result .end)) _
     (l .inv .0) (l .inv .4) (c .before .before .before .word5 .ensures .0) (e .ensures) (c .before .word6 .ensures .0) (c .if3 .left) in
     omega arith
 
@@ -139,7 +139,7 @@ returns-4 c =
     let e = c .before .before .before .before .entered2 in
     let d : length (a .args .text .now) ≤ l .k = omega arith in
     c .left .ensures ∙ last-goes (a .args .graph .now) (a .args .text .now) (a .pre) (l .s) (l .k) (c .before .before .before .before .before .word5 .result) (c .before .before .before .word6 .result)
-    (recorded (l .r .found) (l .r .leaf) (l .r .end)) (recorded (e .result .found) (e .result .leaf) (e .result .end)) _
+    (recorded (l .r .leaf) (l .r .end)) (recorded (e .result .leaf) (e .result .end)) _
     (l .inv .0) (l .inv .4) (c .before .before .before .before .before .word5 .ensures .0) (e .ensures) (c .before .before .before .word6 .ensures .0) d (c .before .before .if3 .left) (c .before .word7 .result) (c .before .word7 .ensures .0)
 
 pub walk-spec : {M : Type 1} → statement M

@@ -24,7 +24,7 @@ use Rattle.words.proofs.table.start.Reads as start-reads
 abbrev Inv-loop : tie.InvT-loop
 Inv-loop table text r₀ s₀ k₀ r s k =
     (s < getD table 0 0) × (k ≤ length text)
-    × (rest (tableOf table) text s k (recorded (r .found) (r .leaf) (r .end)) ≡ readTable (tableOf table) text)
+    × (rest (tableOf table) text s k (recorded (r .leaf) (r .end)) ≡ readTable (tableOf table) text)
 
 abbrev μ-loop : tie.MeasureT-loop
 μ-loop table text r₀ s₀ k₀ r s k = length text - k
@@ -69,7 +69,7 @@ returns-3 c =
     let l = c .before .before .before .before .before .before .loop in
     let q = c .before .before .before .accepted .result in
     turn-stops (st .args .table .now) (st .args .text .now) (st .pre) (l .s) (l .k) (c .before .before .before .before .leaf-of .result) (c .before .step .result)
-    (recorded (l .r .found) (l .r .leaf) (l .r .end)) (recorded (q .found) (q .leaf) (q .end)) _ (l .inv .2) (c .before .before .before .before .leaf-of .ensures) (c .before .before .before .accepted .ensures)
+    (recorded (l .r .leaf) (l .r .end)) (recorded (q .leaf) (q .end)) _ (l .inv .2) (c .before .before .before .before .leaf-of .ensures) (c .before .before .before .accepted .ensures)
     (c .before .before .byte .result) (c .before .before .before .before .before .loop-test .taken) (c .before .before .byte .ensures .0) (c .before .step .ensures .0) (c .if3 .taken)
 
 add-k : tie.Need-add-k Inv-loop μ-loop
@@ -86,7 +86,7 @@ loop-again c =
       c .before .step .ensures .1,
       omega arith,
       turn-goes (st .args .table .now) (st .args .text .now) (st .pre) (l .s) (l .k) (c .before .before .before .before .leaf-of .result) (c .before .step .result)
-          (recorded (l .r .found) (l .r .leaf) (l .r .end)) (recorded (q .found) (q .leaf) (q .end)) _ (l .inv .2) (c .before .before .before .before .leaf-of .ensures) (c .before .before .before .accepted .ensures)
+          (recorded (l .r .leaf) (l .r .end)) (recorded (q .leaf) (q .end)) _ (l .inv .2) (c .before .before .before .before .leaf-of .ensures) (c .before .before .before .accepted .ensures)
           (c .before .before .byte .result) (c .before .before .before .before .before .loop-test .taken) (c .before .before .byte .ensures .0) (c .before .step .ensures .0) (c .if3 .left),
     )
 
@@ -108,7 +108,7 @@ returns-4 c =
     let l = a .before .before .loop in
     let q = e .accepted2 .result in
     end-stops (st .args .table .now) (st .args .text .now) (st .pre) (l .s) (l .k) (a .leaf-of2 .result) (u .step2 .result)
-    (recorded (l .r .found) (l .r .leaf) (l .r .end)) (recorded (q .found) (q .leaf) (q .end)) _ (l .inv .2) (a .leaf-of2 .ensures) (e .accepted2 .ensures)
+    (recorded (l .r .leaf) (l .r .end)) (recorded (q .leaf) (q .end)) _ (l .inv .2) (a .leaf-of2 .ensures) (e .accepted2 .ensures)
     (omega arith) (u .step2 .ensures .0) (c .if4 .taken)
 
 leaf-of-requires-3 : tie.Need-leaf-of-requires-3 Inv-loop μ-loop
@@ -126,7 +126,7 @@ returns-5 c =
     let l = a .before .before .loop in
     let q = e .accepted2 .result in
     c .left .ensures ∙ end-goes (st .args .table .now) (st .args .text .now) (st .pre) (l .s) (l .k) (a .leaf-of2 .result) (u .step2 .result)
-    (recorded (l .r .found) (l .r .leaf) (l .r .end)) (recorded (q .found) (q .leaf) (q .end)) _ (l .inv .2) (a .leaf-of2 .ensures) (e .accepted2 .ensures)
+    (recorded (l .r .leaf) (l .r .end)) (recorded (q .leaf) (q .end)) _ (l .inv .2) (a .leaf-of2 .ensures) (e .accepted2 .ensures)
     (omega arith) (u .step2 .ensures .0) (c .before .before .if4 .left) _ (c .before .leaf-of3 .ensures)
 
 pub walk-spec : {M : Type 1} → statement M

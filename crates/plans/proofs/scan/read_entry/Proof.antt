@@ -3,7 +3,6 @@ use mathlib.Core.Path.{_≡_, sym, ap, _∙_}
 use mathlib.Core.List.{List}
 use Prim.Native.Nat.{_+_, _≤_}
 use native.Mathlib.Omega.{arith}
-use borrow.Author.Tests.{not-true, not-false}
 use lib.ListN.{length, drop}
 use Rattle.rules.specs.Graph.{graphFrom}
 use Rattle.rules.specs.Read.{readGraph}
@@ -19,7 +18,7 @@ use Rattle.plans.proofs.scan.gap.Reads as gap-reads
 
 -- what the walk found
 walked : (c : tie.After-walk) → let st = c .before .before .before .before in
-    recorded (c .walk .result .found) (c .walk .result .leaf) (c .walk .result .end) ≡ readGraph (graphFrom (st .args .graph .now)) (drop (st .args .at) (st .args .text .now))
+    recorded (c .walk .result .leaf) (c .walk .result .end) ≡ readGraph (graphFrom (st .args .graph .now)) (drop (st .args .at) (st .args .text .now))
 walked c =
     let st = c .before .before .before .before in
     c .walk .ensures ∙ ap (readGraph (graphFrom (st .args .graph .now))) (part-is (st .args .text .now) (st .args .at))
@@ -44,7 +43,7 @@ returns c =
     let at = c .before .before .before in
     let st = at .before .before .before .before in
     let r = at .walk .result in
-    c .gap .ensures ∙ sym (gives-none (st .args .text .now) (st .args .at) _ (r .found) (r .leaf) (r .end) (walked at) (not-true (r .found) (c .before .if1 .taken)))
+    c .gap .ensures ∙ sym (gives-none (st .args .text .now) (st .args .at) _ (r .leaf) (r .end) (walked at) (c .before .if1 .taken))
 
 gap-requires-2 : tie.Need-gap-requires-2
 gap-requires-2 c κs = search needs
@@ -55,14 +54,14 @@ returns-2 c =
     let st = at .before .before .before .before in
     let r = at .walk .result in
     c .gap2 .ensures
-    ∙ sym (gives-empty (st .args .text .now) (st .args .at) _ (r .found) (r .leaf) (r .end) (walked at) (not-false (r .found) (c .before .before .before .if1 .left)) (c .before .if2 .taken))
+    ∙ sym (gives-empty (st .args .text .now) (st .args .at) _ (r .leaf) (r .end) (walked at) (c .before .before .before .if1 .left) (c .before .if2 .taken))
 
 add-end : tie.Need-add-end
 add-end c =
     let at = c .before .before .before .before .before in
     let st = at .before .before .before .before in
     let r = at .walk .result in
-    let h : st .args .at + r .end ≤ length (st .args .text .now) = token-within _ (st .args .text .now) (st .args .at) (r .leaf) (r .end) (r .found) (omega arith) (walked at) (not-false (r .found) (c .before .before .before .if1 .left)) in
+    let h : st .args .at + r .end ≤ length (st .args .text .now) = token-within _ (st .args .text .now) (st .args .at) (r .leaf) (r .end) (omega arith) (walked at) (c .before .before .before .if1 .left) in
     omega arith
 
 returns-3 : tie.Need-returns-3
@@ -70,7 +69,7 @@ returns-3 c =
     let at = c .before .before .before .before .before in
     let st = at .before .before .before .before in
     let r = at .walk .result in
-    sym (gives-token (st .args .text .now) (st .args .at) _ (r .found) (r .leaf) (r .end) (walked at) (not-false (r .found) (c .before .before .before .if1 .left)) (c .before .if2 .left))
+    sym (gives-token (st .args .text .now) (st .args .at) _ (r .leaf) (r .end) (walked at) (c .before .before .before .if1 .left) (c .before .if2 .left))
 
 pub read-entry-spec : {M : Type 1} → statement M
 read-entry-spec =

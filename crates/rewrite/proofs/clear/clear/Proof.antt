@@ -12,10 +12,11 @@ use lib.ListN.{getD, set}
 use Rattle.lists.proofs.Bools.{Is, is, yes-is, no-is}
 use Rattle.rules.specs.Graph.{Graph, State, graphFits, graphFrom, acceptOf, earlyOf}
 use Rattle.rules.specs.Build.{covered, cleared, withCleared}
+use Rattle.rules.proofs.Fits.{cleared-fits}
 use Rattle.rules.proofs.Marks.{cleared-length, cleared-to, cleared-state, cleared-early}
 use Rattle.rules.proofs.Taken.{taken-few, taken-long}
-use Rattle.rewrite.proofs.Read.{from-length, accept-is, early-is, taken-fits}
-use Rattle.rewrite.proofs.Steps.{cleared-fits}
+use Rattle.rules.proofs.Flat.{from-length}
+use Rattle.rewrite.proofs.Read.{accept-is, early-is, taken-fits}
 use Rattle.rewrite.proofs.Parents.{uncovered-at}
 use Rattle.rewrite.proofs.Marking.{Marked, marked-none, marked-more, marked-keep, marked-count, marked-later, marked-fits, marked-all}
 use Rattle.rewrite.proofs.clear.clear.Statement.{statement}

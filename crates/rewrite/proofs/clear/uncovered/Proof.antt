@@ -12,7 +12,8 @@ use Rattle.lists.specs.Lists.{eqOption}
 use Rattle.lists.proofs.Bools.{none-some, some-inj}
 use Rattle.rules.specs.Graph.{Graph, graphFrom, to, acceptOf, earlyOf}
 use Rattle.rules.proofs.Taken.{taken-few, taken-long}
-use Rattle.rewrite.proofs.Read.{from-length, from-edge, edge-none, edge-some, leaves-agree, leaves-differ}
+use Rattle.rules.proofs.Flat.{from-length}
+use Rattle.rewrite.proofs.Read.{from-edge, edge-none, edge-some, leaves-agree, leaves-differ}
 use Rattle.rewrite.proofs.Parents.{Passed, passed-none, passed-skip, passed-mark, passed-row, passed-all}
 use Rattle.rewrite.proofs.clear.uncovered.Statement.{statement}
 use Rattle.rewrite.proofs.clear.uncovered.Tie as tie
@@ -70,7 +71,7 @@ loop2-holds c = (omega arith, c .before .before .loop .inv .1)
 target-requires : tie.Need-target-requires Inv-loop2 μ-loop2 Inv-loop μ-loop
 target-requires c κs =
     let p = c .before .before .before in
-    (St (p .before) .pre, (inside p, c .loop2-test .taken))
+    (St (p .before) .pre, (inside p, omega arith))
 
 add-c : tie.Need-add-c Inv-loop2 μ-loop2 Inv-loop μ-loop
 add-c c = omega arith

@@ -11,10 +11,11 @@ use lib.ListN.{getD, set}
 use Rattle.lists.proofs.Bools.{lt-or-le}
 use Rattle.rules.specs.Graph.{graphFits, graphFrom}
 use Rattle.rules.specs.Build.{withEarly}
+use Rattle.rules.proofs.Fits.{early-fits}
 use Rattle.rules.proofs.Marks.{early-length, early-to, early-accept}
 use Rattle.rules.proofs.Taken.{taken-long}
-use Rattle.rewrite.proofs.Read.{from-length, accept-is, taken-fits}
-use Rattle.rewrite.proofs.Steps.{early-fits}
+use Rattle.rules.proofs.Flat.{from-length}
+use Rattle.rewrite.proofs.Read.{accept-is, taken-fits}
 use Rattle.rewrite.proofs.Children.{earlyLeaf, early-alike}
 use Rattle.rewrite.proofs.Marking.{Marked, marked-none, marked-more, marked-count, marked-target, marked-later, marked-fits, marked-all}
 use Rattle.rewrite.proofs.early.early.Statement.{statement}

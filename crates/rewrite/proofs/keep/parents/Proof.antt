@@ -7,7 +7,8 @@ use lib.ListN.{length, getD, set}
 use Rattle.lists.proofs.Bools.{none-some}
 use Rattle.rules.specs.Graph.{Graph, graphFrom, to}
 use Rattle.rules.proofs.Taken.{taken-few, taken-long}
-use Rattle.rewrite.proofs.Read.{from-length, from-edge, edge-none, edge-some}
+use Rattle.rules.proofs.Flat.{from-length}
+use Rattle.rewrite.proofs.Read.{from-edge, edge-none, edge-some}
 use Rattle.rewrite.proofs.BitRows.{Matrix, parents-none, parents-skip, parents-set, parents-row, parents-all}
 use Rattle.rewrite.proofs.keep.parents.Statement.{statement}
 use Rattle.rewrite.proofs.keep.parents.Tie as tie
@@ -58,7 +59,7 @@ loop2-holds c = (omega arith, c .before .loop .inv .1)
 target-requires : tie.Need-target-requires Inv-loop2 μ-loop2 Inv-loop μ-loop
 target-requires c κs =
     let p = c .before .before in
-    (St (p .before) .pre, (inside p .0, c .loop2-test .taken))
+    (St (p .before) .pre, (inside p .0, omega arith))
 
 add-c : tie.Need-add-c Inv-loop2 μ-loop2 Inv-loop μ-loop
 add-c c = omega arith

@@ -10,8 +10,8 @@ use Rattle.lists.specs.Lists.{select, numberFrom}
 use Rattle.rules.specs.Graph.{Graph, graphBuffer, graphFits, graphFrom}
 use Rattle.rules.specs.Build.{kept, relabel}
 use Rattle.rules.proofs.Taken.{taken-root}
+use Rattle.rules.proofs.Flat.{from-length}
 use Rattle.rewrite.specs.Names.{namesOf, Fitting}
-use Rattle.rewrite.proofs.Read.{from-length}
 use Rattle.rewrite.proofs.Pruning.{prune-is, prune-fitting}
 use Rattle.rewrite.proofs.keep.prune.Statement.{statement}
 use Rattle.rewrite.proofs.keep.prune.Tie as tie

@@ -10,9 +10,10 @@ use lib.ListN.{length, getD, drop}
 use Rattle.lists.specs.Lists.{distinct}
 use Rattle.rules.specs.Graph.{Graph, same, graphBuffer, graphFits, graphFrom}
 use Rattle.rules.specs.Build.{mergeRound, mergesNone}
+use Rattle.rules.proofs.Fits.{Root}
 use Rattle.rules.proofs.Taken.{taken-few, taken-long, taken-root}
+use Rattle.rules.proofs.Flat.{from-length}
 use Rattle.rewrite.specs.Equals.{Lowest}
-use Rattle.rewrite.proofs.Read.{Root, from-length}
 use Rattle.rewrite.proofs.Grouping.{Grouped, grouped-none, grouped-low, grouped-new, grouped-met, grouped-count, round-is, grouped-fitting}
 use Rattle.rewrite.proofs.merge.merge_round.Statement.{statement}
 use Rattle.rewrite.proofs.merge.merge_round.Tie as tie

@@ -13,11 +13,11 @@ use Rattle.lists.proofs.Selecting.{select-from, select-in, select-out, select-w
 use Rattle.words.specs.Places.{graphPlace}
 use Rattle.rules.specs.Graph.{State, Graph, blank, stateOf, graphFrom, graphBuffer}
 use Rattle.rules.specs.Build.{relabel}
-use Rattle.rules.proofs.Fits.{Fits}
+use Rattle.rules.proofs.Fits.{Fits, relabel-fits}
 use Rattle.rules.proofs.Taken.{taken-few, taken-long, taken-root, taken-target}
+use Rattle.rules.proofs.Flat.{from-length}
 use Rattle.rewrite.specs.Names.{namesOf, Moved, Zeroed}
-use Rattle.rewrite.proofs.Read.{from-length, taken-fits}
-use Rattle.rewrite.proofs.Steps.{relabel-fits}
+use Rattle.rewrite.proofs.Read.{taken-fits}
 use Rattle.rewrite.proofs.Buffers.{buffer-taken}
 use Rattle.rewrite.proofs.Packing.{Packed, packed-none, packed-skip, packed-row, packed-all}
 use Rattle.rewrite.proofs.relabel.relabel.Statement.{statement}
@@ -65,8 +65,8 @@ unfolding stateOf
 new-fits c few =
     let a = St c in
     let small : (i : ℕ) → getD (w₀ c) i 0 < 65536 = λ i. omega (arith, c .before .before .before .before .before .slice-known .given i) in
-    relabel-fits 255 (getD (w₀ c) 0 0) (graphFrom (w₀ c)) (taken-fits (w₀ c) (a .pre .0) small) (namesOf (a .args .names .now)) (rest c) few
-    (select-from blank (a .args .stay .now) (graphFrom (w₀ c) .states)) (a .pre .1 .1)
+    relabel-fits 255 (getD (w₀ c) 0 0) (graphFrom (w₀ c)) (taken-fits (w₀ c) (a .pre .0) small .states) (namesOf (a .args .names .now)) (rest c) (graphFrom (w₀ c) .root) few
+    (select-from blank (a .args .stay .now) (graphFrom (w₀ c) .states)) (a .pre .1 .1 .below) (a .pre .1 .1 .root-below)
 
 word-requires : tie.Need-word-requires Inv-loop μ-loop
 word-requires c κs =

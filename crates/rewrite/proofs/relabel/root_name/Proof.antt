@@ -4,7 +4,7 @@ use mathlib.Core.Option.{Option, Option·getD}
 use Prim.Native.Nat.{ℕ}
 use native.Mathlib.Omega.{arith}
 use borrow.Author.Needs.{needs}
-use Rattle.rewrite.proofs.Read.{or-none, or-number}
+use Rattle.rules.proofs.Nones.{or-none, or-number}
 use Rattle.rewrite.proofs.Rows.{name-is}
 use Rattle.rewrite.proofs.relabel.root_name.Statement.{statement}
 use Rattle.rewrite.proofs.relabel.root_name.Tie as tie

@@ -1,0 +1,140 @@
+-- A state's byte edges, read from the words of its graph: the class of an edge, and the targets that edges lead to. Assumes nothing.
+use mathlib.Core.Path.{_≡_, sym, ap, _∙_}
+use mathlib.Core.Bool.{Bool, true, false, _||_}
+use mathlib.Core.List.{List}
+use mathlib.Core.Option.{Option, none, some}
+use Prim.Native.Nat.{ℕ, _+_, _*_, _≤_, _<_}
+use native.Mathlib.Numerals.{add-one}
+use native.Mathlib.Omega.{arith}
+use borrow.Author.Count.{below-more}
+use borrow.Author.Tests.{eqb-true, eqb-false, ne-eqb}
+use lib.Dec.{eqb}
+use lib.ListN.{length, getD, set, take, length-map, length-set}
+use lib.Seq.{length-take-le, getD-take, getD-set-same, getD-set-other, take-suc, take-all, ext-getD}
+use Rattle.lists.specs.Lists.{anyL, eqOption}
+use Rattle.lists.proofs.Bools.{Is, is, yes-is, no-is, or-right, or-false}
+use Rattle.lists.proofs.Any.{any-snoc}
+use Rattle.lists.proofs.Elements.{map-at}
+use Rattle.rules.specs.Graph.{State, stateOf, to, orNone, graphFrom, graphFits}
+use Rattle.rules.proofs.Flat.{from-width, from-to}
+use Rattle.rules.proofs.Nones.{or-meets}
+use Rattle.rules.proofs.Taken.{taken-long, taken-few}
+use Rattle.edges.specs.Edges.{bytesOf, classTo, leadsTo}
+
+-- ---- what the loops keep
+
+-- the flags below b are those of the class
+pub record Filling (class flags : List Bool) (b : ℕ) : Type 0 where
+  pub within : b ≤ 256
+  pub room : length flags ≡ 256
+  pub front : (k : ℕ) → k < b → getD flags k false ≡ getD class k false
+
+-- of the n states, those are marked that a byte below b leads to
+pub record Marking (n : ℕ) (row : List (Option ℕ)) (found : List Bool) (b : ℕ) : Type 0 where
+  pub within : b ≤ 256
+  pub room : length found ≡ 1024
+  pub marked : (u : ℕ) → u < n → getD found u false ≡ anyL (eqOption (some u)) (take b row)
+
+module _ (w : List ℕ) (taken : graphFits w ≡ true) (s : ℕ) (h : s < getD w 0 0) where
+  abbrev pub st : State
+  st = stateOf (graphFrom w) s
+
+  abbrev pub word : ℕ → ℕ
+  word b = getD w (2 + 258 * s + b) 0
+
+  row-length : length (bytesOf st) ≡ 256
+  row-length = length-take-le 256 (st .steps) (let e = from-width w (taken-long w taken) s h in omega arith)
+
+  row-at : (b : ℕ) → b < 256 → getD (bytesOf st) b none ≡ orNone 65535 (word b)
+  unfolding to
+  row-at b l = getD-take 256 (st .steps) b none l ∙ from-to w (taken-long w taken) s h b (omega arith)
+
+  -- ---- the class of an edge
+
+  module _ (u : ℕ) (k : u < getD w 0 0) where
+    met : (b : ℕ) → eqOption (some u) (orNone 65535 (word b)) ≡ eqb u (word b)
+    met b = or-meets 65535 (word b) u (λ z. let e = taken-few w taken in omega arith)
+
+    pub class-length : length (classTo st u) ≡ 256
+    unfolding classTo
+    class-length = length-map (bytesOf st) (eqOption (some u)) ∙ row-length
+
+    pub class-at : (b : ℕ) → b < 256 → getD (classTo st u) b false ≡ eqb u (word b)
+    unfolding classTo
+    class-at b l =
+        map-at (eqOption (some u)) (bytesOf st) b none false (let e = row-length in omega arith)
+        ∙ ap (eqOption (some u)) (row-at b l)
+        ∙ met b
+
+    -- an edge's byte is among those up to it
+    pub leads-more : (b : ℕ) → b < 256 → anyL (eqOption (some u)) (take (b + 1) (bytesOf st)) ≡ (anyL (eqOption (some u)) (take b (bytesOf st)) || eqb u (word b))
+    leads-more b l =
+        ap (λ (n : ℕ). anyL (eqOption (some u)) (take n (bytesOf st))) (add-one b)
+        ∙ ap (anyL (eqOption (some u))) (take-suc (bytesOf st) b none (let e = row-length in omega arith))
+        ∙ any-snoc (eqOption (some u)) (take b (bytesOf st)) (getD (bytesOf st) b none)
+        ∙ ap (λ (o : Option ℕ). anyL (eqOption (some u)) (take b (bytesOf st)) || eqOption (some u) o) (row-at b l)
+        ∙ ap (λ (x : Bool). anyL (eqOption (some u)) (take b (bytesOf st)) || x) (met b)
+
+    pub leads-all : anyL (eqOption (some u)) (take 256 (bytesOf st)) ≡ leadsTo st u
+    unfolding leadsTo
+    leads-all = ap (anyL (eqOption (some u))) (take-all 256 (bytesOf st) (let e = row-length in omega arith))
+
+  -- ---- the flags of a class, filled from the front
+
+  module _ (u : ℕ) (k : u < getD w 0 0) where
+    pub fill-more : {flags : List Bool} {b : ℕ} → b < 256 → (x : ℕ) → x ≡ word b → Filling (classTo st u) flags b → Filling (classTo st u) (set flags b (eqb u x)) (b + 1)
+    fill-more {flags} {b} l x e f =
+        record {
+          within = omega arith;
+          room = length-set flags b (eqb u x) ∙ f .room;
+          front =
+              below-more (λ (j : ℕ). getD (set flags b (eqb u x)) j false ≡ getD (classTo st u) j false) b
+              (λ j i. getD-set-other flags b j (eqb u x) false (λ z. omega arith) ∙ f .front j i)
+              (getD-set-same flags b (eqb u x) false (let r = f .room in omega arith) ∙ ap (eqb u) e ∙ sym (class-at u k b l));
+        }
+
+    pub filled : {flags : List Bool} {b : ℕ} → 256 ≤ b → Filling (classTo st u) flags b → flags ≡ classTo st u
+    filled {flags} {b} l f =
+        let r = f .room in
+        ext-getD false flags (classTo st u) (r ∙ sym (class-length u k)) (λ j i. f .front j (omega arith))
+
+  -- ---- the targets, marked byte by byte
+
+  module _ {found : List Bool} {b : ℕ} (l : b < 256) (m : Marking (getD w 0 0) (bytesOf st) found b) where
+    pub mark-more : (x : ℕ) → x ≡ word b → x < 1024 → Marking (getD w 0 0) (bytesOf st) (set found x true) (b + 1)
+    mark-more x e i =
+        record {
+          within = omega arith;
+          room = length-set found x true ∙ m .room;
+          marked = λ u k. go u k (is (eqb u x));
+        }
+      where
+        go : (u : ℕ) → u < getD w 0 0 → Is (eqb u x) → getD (set found x true) u false ≡ anyL (eqOption (some u)) (take (b + 1) (bytesOf st))
+        go u k (yes-is q) =
+            let r = m .room in
+            ap (λ (y : ℕ). getD (set found x true) y false) (eqb-true u x q)
+            ∙ getD-set-same found x true false (omega arith)
+            ∙ sym (leads-more u k b l ∙ or-right (anyL (eqOption (some u)) (take b (bytesOf st))) (eqb u (word b)) (ap (eqb u) (sym e) ∙ q))
+        go u k (no-is q) =
+            getD-set-other found x u true false (eqb-false u x q)
+            ∙ m .marked u k
+            ∙ sym (leads-more u k b l ∙ ap (λ (y : Bool). anyL (eqOption (some u)) (take b (bytesOf st)) || y) (ap (eqb u) (sym e) ∙ q) ∙ or-false (anyL (eqOption (some u)) (take b (bytesOf st))))
+
+    pub mark-none : (x : ℕ) → x ≡ word b → 1024 ≤ x → Marking (getD w 0 0) (bytesOf st) found (b + 1)
+    mark-none x e i =
+        let few = taken-few w taken in
+        record {
+          within = omega arith;
+          room = m .room;
+          marked =
+              λ u k. m .marked u k
+              ∙ sym (leads-more u k b l
+              ∙ ap (λ (y : Bool). anyL (eqOption (some u)) (take b (bytesOf st)) || y) (ne-eqb u (word b) (λ z. omega arith))
+              ∙ or-false (anyL (eqOption (some u)) (take b (bytesOf st))));
+        }
+
+  pub marked-all : {found : List Bool} {b : ℕ} → 256 ≤ b → Marking (getD w 0 0) (bytesOf st) found b → (u : ℕ) → u < getD w 0 0 → getD found u false ≡ leadsTo st u
+  marked-all {found} {b} l m u k =
+      let i = m .within in
+      let e : b ≡ 256 = omega arith in
+      m .marked u k ∙ ap (λ (n : ℕ). anyL (eqOption (some u)) (take n (bytesOf st))) e ∙ leads-all u k

@@ -1,0 +1,60 @@
+-- The loop's invariant: the flags of the bytes below b are those of the class. The measure is the bytes left. Assumes nothing.
+use mathlib.Core.Path.{refl}
+use Prim.Native.Nat.{_-_}
+use native.Mathlib.Nat.{not-suc-le-zero}
+use native.Mathlib.Omega.{arith}
+use Rattle.rules.specs.Graph.{stateOf, graphFrom}
+use Rattle.edges.specs.Edges.{classTo}
+use Rattle.rules.proofs.Taken.{taken-long, taken-few}
+use Rattle.edges.proofs.Rows.{Filling, fill-more, filled}
+use Rattle.edges.proofs.class_to.Statement.{statement}
+use Rattle.edges.proofs.class_to.Tie as tie
+
+abbrev Inv-loop : tie.InvT-loop
+Inv-loop graph s u class₀ b₀ class b = Filling (classTo (stateOf (graphFrom graph) s) u) class b
+
+abbrev μ-loop : tie.MeasureT-loop
+μ-loop graph s u class₀ b₀ class b = 256 - b
+
+loop-holds : tie.Need-loop-holds Inv-loop μ-loop
+loop-holds c = record { within = omega arith; room = refl; front = λ k l. absurd (not-suc-le-zero l) }
+
+word-requires : tie.Need-word-requires Inv-loop μ-loop
+word-requires c κs =
+    let s = c .before .before .before in
+    omega (arith, taken-long (s .args .graph .now) (s .pre .0), taken-few (s .args .graph .now) (s .pre .0))
+
+array-write-class : tie.Need-array-write-class Inv-loop μ-loop
+array-write-class c = omega arith
+
+add-b : tie.Need-add-b Inv-loop μ-loop
+add-b c = omega arith
+
+loop-less : tie.Need-loop-less Inv-loop μ-loop
+loop-less c = omega arith
+
+loop-again : tie.Need-loop-again Inv-loop μ-loop
+loop-again c =
+    let at = c .before .before in
+    let s = at .before .before in
+    fill-more (s .args .graph .now) (s .pre .0) (s .args .s) (s .pre .1 .0) (s .args .u) (s .pre .1 .1) (omega arith) _ (c .word .ensures .0) (at .loop .inv)
+
+returns : tie.Need-returns Inv-loop μ-loop
+returns c =
+    let at = c .before in
+    let s = at .before .before in
+    filled (s .args .graph .now) (s .pre .0) (s .args .s) (s .pre .1 .0) (s .args .u) (s .pre .1 .1) (c .loop-test .left) (at .loop .inv)
+
+pub class-to-spec : {M : Type 1} → statement M
+class-to-spec =
+    tie.close
+    (tie.spec
+    Inv-loop
+    μ-loop
+    loop-holds
+    word-requires
+    array-write-class
+    add-b
+    loop-less
+    loop-again
+    returns)

@@ -1,0 +1,78 @@
+-- The loop's invariant: the marked states are those that a byte below b leads to. The measure is the bytes left. Assumes nothing.
+use mathlib.Core.Path.{refl}
+use mathlib.Core.Bool.{false}
+use Prim.Native.Nat.{_-_}
+use native.Mathlib.Omega.{arith}
+use lib.ListN.{getD, getD-replicate}
+use Rattle.rules.specs.Graph.{stateOf, graphFrom}
+use Rattle.rules.proofs.Taken.{taken-long, taken-few}
+use Rattle.edges.specs.Edges.{bytesOf}
+use Rattle.edges.proofs.Rows.{Marking, mark-more, mark-none, marked-all}
+use Rattle.edges.proofs.targets.Statement.{statement}
+use Rattle.edges.proofs.targets.Tie as tie
+
+abbrev Inv-loop : tie.InvT-loop
+Inv-loop graph s found₀ b₀ found b = Marking (getD graph 0 0) (bytesOf (stateOf (graphFrom graph) s)) found b
+
+abbrev μ-loop : tie.MeasureT-loop
+μ-loop graph s found₀ b₀ found b = 256 - b
+
+loop-holds : tie.Need-loop-holds Inv-loop μ-loop
+loop-holds c =
+    let s = c .before in
+    record {
+      within = omega arith;
+      room = refl;
+      marked = λ u k. getD-replicate 1024 u false false (let e = taken-few (s .args .graph .now) (s .pre .0) in omega arith);
+    }
+
+word-requires : tie.Need-word-requires Inv-loop μ-loop
+word-requires c κs =
+    let s = c .before .before .before in
+    omega (arith, taken-long (s .args .graph .now) (s .pre .0), taken-few (s .args .graph .now) (s .pre .0))
+
+add-b : tie.Need-add-b Inv-loop μ-loop
+add-b c = omega arith
+
+array-write-found : tie.Need-array-write-found Inv-loop μ-loop
+array-write-found c = omega arith
+
+loop-less : tie.Need-loop-less Inv-loop μ-loop
+loop-less c = omega arith
+
+loop-again : tie.Need-loop-again Inv-loop μ-loop
+loop-again c =
+    let at = c .before .before .before in
+    let s = at .before .before in
+    mark-more (s .args .graph .now) (s .pre .0) (s .args .s) (s .pre .1) (omega arith) (at .loop .inv) _ (c .before .word .ensures .0) (omega arith)
+
+loop-less-2 : tie.Need-loop-less-2 Inv-loop μ-loop
+loop-less-2 c = omega arith
+
+loop-again-2 : tie.Need-loop-again-2 Inv-loop μ-loop
+loop-again-2 c =
+    let at = c .before .before .before in
+    let s = at .before .before in
+    mark-none (s .args .graph .now) (s .pre .0) (s .args .s) (s .pre .1) (omega arith) (at .loop .inv) _ (c .before .word .ensures .0) (c .if1 .left)
+
+returns : tie.Need-returns Inv-loop μ-loop
+returns c =
+    let at = c .before in
+    let s = at .before .before in
+    marked-all (s .args .graph .now) (s .pre .0) (s .args .s) (s .pre .1) (c .loop-test .left) (at .loop .inv)
+
+pub targets-spec : {M : Type 1} → statement M
+targets-spec =
+    tie.close
+    (tie.spec
+    Inv-loop
+    μ-loop
+    loop-holds
+    word-requires
+    add-b
+    array-write-found
+    loop-less
+    loop-again
+    loop-less-2
+    loop-again-2
+    returns)

@@ -1,0 +1,44 @@
+// The byte edges of a state, grouped by target (document 01, "Edges, costs, masks"), from the words of a graph that refusal 12 takes: the states
+// that they lead to, and the class of the bytes that lead to one. The end step is none of them.
+//
+// They are defined in specs/Edges.antt; what is true of them is in proofs/ByTarget.antt.
+ghost use mathlib.Core.Path.{_≡_};
+ghost use mathlib.Core.Bool.{true, false};
+ghost use Prim.Native.Nat.{ℕ, _<_};
+ghost use lib.ListN.{getD};
+ghost use Rattle.rules.specs.Graph.{stateOf, graphFrom, graphFits};
+ghost use Rattle.edges.specs.Edges.{classTo, leadsTo};
+
+// The class of the edge from state s to state u.
+pub fn class_to(graph: &[u16], s: usize, u: usize) -> [bool; 256]
+    requires { ⌜ graphFits (now graph) ≡ true ⌝ }
+    requires { ⌜ s < getD (now graph) 0 0 ⌝ }
+    requires { ⌜ u < getD (now graph) 0 0 ⌝ }
+    ensures { λ r. ⌜ r ≡ classTo (stateOf (graphFrom (now (graph .entry))) s) u ⌝ }
+{
+    let mut class = [false; 256];
+    let mut b: usize = 0;
+    while b < 256 {
+        class[b] = u == words::graph::word(graph, s, b);
+        b += 1;
+    }
+    class
+}
+
+// Which states the byte edges of state s lead to.
+pub fn targets(graph: &[u16], s: usize) -> [bool; 1024]
+    requires { ⌜ graphFits (now graph) ≡ true ⌝ }
+    requires { ⌜ s < getD (now graph) 0 0 ⌝ }
+    ensures { λ r. ⌜ ((u : ℕ) → u < getD (now (graph .entry)) 0 0 → getD r u false ≡ leadsTo (stateOf (graphFrom (now (graph .entry))) s) u) ⌝ }
+{
+    let mut found = [false; 1024];
+    let mut b: usize = 0;
+    while b < 256 {
+        let u = words::graph::word(graph, s, b);
+        b += 1;
+        if u < 1024 {
+            found[u] = true;
+        }
+    }
+    found
+}

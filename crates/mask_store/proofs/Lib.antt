@@ -1,0 +1,9 @@
+pub mod Numbers
+pub mod Search
+pub mod MaskLaws
+pub mod Growth
+pub mod Adding
+pub mod Several
+pub mod Writing
+pub mod Luts
+pub mod Values

@@ -1,0 +1,69 @@
+// Replays the stored answers on builds (docs/ORACLE.md, "builds.bin"): every table is built from its words and from its image, and answers, refusals
+// and both buffers are compared with what the original answers.
+mod calls;
+mod cases;
+mod compare;
+mod image;
+
+use vectors::tally::Tally;
+
+// All of a list, by what the calls are said to answer. There is room for any legal table, for a table of one state more, for the graph of 1,024
+// states, and for the image with a byte more.
+fn main() {
+    let mut space = [0u8; 262144];
+    let n = io::read_full(0, &mut space);
+    let mut table = [0u16; 273664];
+    let mut graph = [0u16; 264448];
+    let mut errors = [0u16; 1024];
+    let mut image = [0u8; 547329];
+    replay_words(&space[..n], &mut table, &mut graph, &mut errors);
+    replay_images(&space[..n], &mut table, &mut graph, &mut errors, &mut image);
+    replay_thirteen(&space[..n], &mut table, &mut graph, &mut errors, &mut image);
+}
+
+// Prints the line of the calls of one kind.
+fn tell(call: &[u8], kind: usize, t: Tally) {
+    io::write_all(1, call);
+    if kind == 0 {
+        io::write_all(1, b" built");
+    } else {
+        io::write_all(1, b" refused ");
+        io::print_decimal(1, kind as u64);
+    }
+    vectors::tally::tell(b":", t);
+}
+
+// The calls on words.
+fn replay_words(list: &[u8], table: &mut [u16], graph: &mut [u16], errors: &mut [u16]) {
+    for kind in 0..10 {
+        let t = calls::by_words(list, kind, table, graph, errors);
+        tell(b"words", kind, t);
+    }
+}
+
+// The calls on images, but for 13.
+fn replay_images(
+    list: &[u8],
+    table: &mut [u16],
+    graph: &mut [u16],
+    errors: &mut [u16],
+    image: &mut [u8],
+) {
+    for kind in 0..10 {
+        let t = calls::by_image(list, kind, table, graph, errors, image);
+        tell(b"image", kind, t);
+    }
+}
+
+// The images that are refused by 13, and whether the list was read whole.
+fn replay_thirteen(
+    list: &[u8],
+    table: &mut [u16],
+    graph: &mut [u16],
+    errors: &mut [u16],
+    image: &mut [u8],
+) {
+    let last = calls::by_image(list, 13, table, graph, errors, image);
+    tell(b"image", 13, last);
+    vectors::tally::tell_end(list, last.at);
+}

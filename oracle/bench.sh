@@ -1,0 +1,35 @@
+#!/usr/bin/env bash
+# Builds target/bench/bench and runs it: our calls in target/staticlib/libcapi.a beside the original Rust and Rust loops with unchecked indexing.
+#     oracle/bench.sh [NAME..]          the ratios, of all tasks or of the named ones
+#     oracle/bench.sh count [NAME..]    how many instructions one run of each side takes, by valgrind
+set -eu
+cd "$(dirname "$0")/.."
+OUT=$PWD/target/bench
+FLAGS=(-C opt-level=3)
+. oracle/crates.sh
+rt staticlib capi >"$OUT/staticlib.log" 2>&1
+FLAGS+=(-C link-arg="$PWD/target/staticlib/libcapi.a")
+crate bin bench 2021 "-D warnings" oracle/src/bench.rs logos_codegen regex_automata regex_syntax proc_macro2
+
+# instructions SIDE TASK FUNCTION: those of the function and all that it calls
+instructions() {
+    valgrind --tool=callgrind --callgrind-out-file=/dev/null --toggle-collect="$3" "$OUT/bench" once "$1" "$2" 2>&1 | sed -n 's/.*Collected : //p'
+}
+
+if [ "${1:-}" != count ]; then
+    "$OUT/bench" time 9 "$@"
+    exit
+fi
+shift
+[ $# -gt 0 ] || set -- $("$OUT/bench" names)
+for name in "$@"; do
+    case $name in
+        read-*) call=read_graph rust='bench::loops::read_graph*' ;;
+        scan-*) call=scan_list rust='bench::loops::scan_list*' ;;
+        next-*) call=scan_next rust='bench::loops::scan_next*' ;;
+        build-*) call=build rust='logos_codegen::graph::Graph::new*' ;;
+    esac
+    ours=$(instructions ours "$name" "balthwyr_$call")
+    rust=$(instructions rust "$name" "$rust")
+    echo "$name $ours $rust $(awk "BEGIN { printf \"%.3f\", $rust / $ours }")"
+done

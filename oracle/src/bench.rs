@@ -1,0 +1,122 @@
+//! The benchmarks: our calls, through the C interface, and the same tasks in Rust, from one program. docs/BENCHMARKS.md says what each is.
+#![allow(dead_code, unused_imports)]
+
+mod builds;
+#[path = "bench/calls.rs"]
+mod calls;
+mod classes;
+#[path = "bench/clock.rs"]
+mod clock;
+mod form;
+mod graphs;
+#[path = "bench/loops.rs"]
+mod loops;
+mod original;
+#[path = "bench/pairs.rs"]
+mod pairs;
+mod random;
+mod tables;
+#[path = "bench/tables.rs"]
+mod tables_to_build;
+#[path = "bench/texts.rs"]
+mod texts;
+mod walks;
+mod words;
+
+use clock::{measure, Clock, Pair};
+use pairs::{Build, Read, Scan};
+use random::Random;
+
+const USAGE: &str = "bench time ROUNDS [NAME..]     the ratios
+bench once ours|rust NAME      one run of one side, on a short text
+bench names                    the names";
+
+const NAMES: [&str; 11] = [
+    "read-short",
+    "read-long",
+    "read-string",
+    "scan-short",
+    "scan-long",
+    "scan-string",
+    "next-short",
+    "build-dense-126",
+    "build-dense-1024",
+    "build-ladder-1024",
+    "build-last-word-1024",
+];
+
+/// A text of so many bytes.
+fn text(kind: &str, size: usize) -> Option<Vec<u8>> {
+    let mut random = Random::new(1);
+    Some(match kind {
+        "short" => texts::text(&mut random, texts::ALL, size, 1, 5),
+        "long" => texts::text(&mut random, texts::RUNS, size, 1_000, 20_000),
+        "string" => texts::text(&mut random, texts::STRINGS, size, 1_000, 20_000),
+        _ => return None,
+    })
+}
+
+fn table(kind: &str) -> Option<Vec<u16>> {
+    let mut random = Random::new(1);
+    Some(match kind {
+        "dense-126" => tables_to_build::dense(&mut random, 126),
+        "dense-1024" => tables_to_build::dense(&mut random, 1024),
+        "ladder-1024" => tables_to_build::ladder(),
+        "last-word-1024" => tables_to_build::last_word(),
+        _ => return None,
+    })
+}
+
+/// The task of a name, and how many bytes it reads. A text has so many, a hundredth of them where each entry is a call.
+fn pair(name: &str, size: usize) -> Option<(Box<dyn Pair>, usize)> {
+    let (task, kind) = name.split_once('-')?;
+    Some(match task {
+        "read" => (Box::new(Read::new(texts::joined(), text(kind, size)?)), size),
+        "scan" => (Box::new(Scan::new(texts::lexer(), text(kind, size)?, false)), size),
+        "next" => (Box::new(Scan::new(texts::lexer(), text(kind, size / 100)?, true)), size / 100),
+        "build" => (Box::new(Build::new(table(kind)?)), 0),
+        _ => return None,
+    })
+}
+
+/// The ratios of the named tasks.
+fn time(rounds: usize, names: &[&str]) -> Option<()> {
+    println!("{:<22}{:>13}{:>13}{:>9}{:>9}{:>9}", "", "ours", "Rust", "ratio", "least", "greatest");
+    for name in names {
+        let (mut pair, bytes) = pair(name, 20_000_000)?;
+        let times = measure(&mut *pair, rounds);
+        let shown = |seconds: f64| match bytes {
+            0 => format!("{:.3} ms", 1000.0 * seconds),
+            _ => format!("{:.1} MB/s", bytes as f64 / seconds / 1e6),
+        };
+        let [ratio, least, greatest] = times.ratio;
+        println!("{name:<22}{:>13}{:>13}{ratio:>9.3}{least:>9.3}{greatest:>9.3}", shown(times.ours), shown(times.rust));
+    }
+    Some(())
+}
+
+fn once(side: &str, name: &str) -> Option<()> {
+    let (mut pair, _) = pair(name, 200_000)?;
+    match side {
+        "ours" => pair.ours(&mut Clock::default()),
+        "rust" => pair.rust(&mut Clock::default()),
+        _ => return None,
+    }
+    Some(())
+}
+
+fn main() {
+    let args = std::env::args().skip(1).collect::<Vec<_>>();
+    let args = args.iter().map(String::as_str).collect::<Vec<_>>();
+    let done = match args[..] {
+        ["time", rounds] => time(form::number(rounds), &NAMES),
+        ["time", rounds, ref names @ ..] => time(form::number(rounds), names),
+        ["once", side, name] => once(side, name),
+        ["names"] => Some(println!("{}", NAMES.join("\n"))),
+        _ => None,
+    };
+    if done.is_none() {
+        eprintln!("{USAGE}");
+        std::process::exit(2);
+    }
+}
