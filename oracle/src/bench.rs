@@ -56,13 +56,14 @@ fn text(kind: &str, size: usize) -> Option<Vec<u8>> {
     })
 }
 
+/// A table of a shape and a number of states, as `ladder-512`.
 fn table(kind: &str) -> Option<Vec<u16>> {
-    let mut random = Random::new(1);
-    Some(match kind {
-        "dense-126" => tables_to_build::dense(&mut random, 126),
-        "dense-1024" => tables_to_build::dense(&mut random, 1024),
-        "ladder-1024" => tables_to_build::ladder(),
-        "last-word-1024" => tables_to_build::last_word(),
+    let (shape, states) = kind.rsplit_once('-')?;
+    let states = form::number(states);
+    Some(match shape {
+        "dense" => tables_to_build::dense(&mut Random::new(1), states),
+        "ladder" => tables_to_build::ladder(states),
+        "last-word" => tables_to_build::last_word(states),
         _ => return None,
     })
 }

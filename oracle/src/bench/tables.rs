@@ -22,19 +22,20 @@ pub fn dense(random: &mut Random, states: usize) -> Vec<u16> {
     table.words()
 }
 
-/// 1,024 states that merge in 510 rounds, one a round. One state is not reached.
-pub fn ladder() -> Vec<u16> {
-    let mut table = many_rounds(510, false);
-    table.states.push(State::dead());
+/// States that merge one a round, in half as many rounds as there are states. One or two are not reached.
+pub fn ladder(states: usize) -> Vec<u16> {
+    let mut table = many_rounds((states - 3) / 2, false);
+    table.states.resize(states, State::dead());
     table.words()
 }
 
-/// 1,024 states, state 0 not reached: the rows of the others differ in their end targets only, so that no two are equal.
-pub fn last_word() -> Vec<u16> {
+/// State 0 is not reached; the rows of the others differ in their end targets only, so that no two are equal.
+pub fn last_word(states: usize) -> Vec<u16> {
     let mut table = Table { start: 1, leaves: leaves(1), states: vec![State::dead()], records: Vec::new() };
     let head = table.chain(&[0]);
-    for state in 1..1024 {
-        table.states.push(State { targets: [2; 256], end: if state == 1023 { 1 } else { state + 1 }, head });
+    for state in 1..states {
+        let end = if state == states - 1 { 1 } else { state + 1 };
+        table.states.push(State { targets: [2; 256], end: end as u16, head });
     }
     table.words()
 }
