@@ -1,7 +1,7 @@
 -- What the definitions answer, as lists of numbers, so that every case is one kind of equation. Each name unfolds all that it computes with.
 use mathlib.Core.List.{List, [], _∷_, _++_, map, flatMap}
 use mathlib.Core.Option.{none, some}
-use Prim.Native.Nat.{ℕ, zero, suc}
+use Prim.Native.Nat.{ℕ, zero, suc, _/_, _%_}
 use Rattle.lists.specs.Sets.{closure, round, rounds}
 use Rattle.lists.specs.Told.{Told}
 use Rattle.classes.specs.Classes.{Class, ranges, comparisons, cost}
@@ -13,11 +13,13 @@ use Rattle.rules.specs.Graph.{stateOf, to, acceptOf, earlyOf, leads, same, stat
 use Rattle.rules.specs.Build.{errorWords, build, emptyLeaves, unpruned, merged, mergesNone, mergeRound, pruned, kept, withCleared, cleared, covered, withEarly, children, wholeGraph, firstState, ties, leafOf, contenders, chain, restrict, relabel, renamed, reached}
 use Rattle.rules.specs.Read.{readTable, readGraph, tableWalker, graphWalker}
 use Rattle.graph.specs.Answers.{readTold, tableRead, graphRead}
+use Rattle.graph.specs.New.{conflicts, wrote, wroteOr9, writtenOr, newOf, imageOf}
 use Rattle.plans.specs.declared.scan.Scan.{Scan}
 use Rattle.plans.specs.Scan.{fresh, gapLength, next, scanTold}
 use Rattle.edges.specs.Edges.{classTo, leadsTo, targets}
-use Rattle.display.specs.Text.{bytes, decimal}
+use Rattle.display.specs.Text.{decimal}
 use Rattle.display.specs.Display.{letterOf, escaped, rangeText, classText, firstLine, edgeLine, stateText, displayed, lineOf, conflictLine}
+use Rattle.print.specs.Print.{space, printedBuild, refusedLine, printed}
 
 abbrev pub numbers : Told → List ℕ
 numbers t = t .refusal ∷ t .values
@@ -48,10 +50,13 @@ unfoldable pub errorsOf : List ℕ → List ℕ
 unfolding graphOf
 errorsOf w = flatMap errorWords (build (tableOf w) .errors)
 
--- what the graph printer prints: the graph's text and a line end, then a line for each error
-unfoldable pub printed : List ℕ → List ℕ
-unfolding graphOf costOf decimal letterOf escaped rangeText classText classTo leadsTo targets firstLine edgeLine stateText displayed lineOf conflictLine
-printed w = let b = build (tableOf w) in displayed (b .graph) ++ (bytes "\n" ++ flatMap (λ e. conflictLine e ++ bytes "\n") (b .errors))
+-- what the graph printer prints for the words' image, low byte first
+abbrev pub imageBytes : List ℕ → List ℕ
+imageBytes w = flatMap (λ x. x % 256 ∷ x / 256 ∷ []) w
+
+unfoldable pub printedOf : List ℕ → List ℕ
+unfolding refusalOf graphOf costOf decimal letterOf escaped rangeText classText classTo leadsTo targets firstLine edgeLine stateText displayed lineOf conflictLine conflicts wrote wroteOr9 writtenOr newOf imageOf space printedBuild refusedLine printed
+printedOf w = printed (imageBytes w)
 
 -- ---- readings and scans: by the table's words, and by the words of its graph
 

@@ -5,7 +5,7 @@ use Prim.Native.Nat.{ℕ, _+_, _-_, _*_}
 use lib.ListN.{replicate, take}
 use Rattle.classes.specs.Classes.{Class}
 use Rattle.display.specs.Text.{bytes}
-use Rattle.cases.specs.Answers.{costOf, priorityNumbers, refusalOf, graphOf, errorsOf, printed, readBoth, scanned}
+use Rattle.cases.specs.Answers.{costOf, priorityNumbers, refusalOf, graphOf, errorsOf, printedOf, readBoth, scanned}
 
 pub record Case : Type 0 where
   pub got : List ℕ
@@ -54,7 +54,10 @@ table =
     -- K1: the words are legal, the graph has two states, and the printer prints this
     case (refusalOf k1) (0 ∷ [])
     ∷ case (graphOf k1) (2 ∷ 0 ∷ (replicate 97 65535 ++ 1 ∷ (replicate 160 65535 ++ (replicate 257 65535 ++ (255 + 256 * 0) ∷ []))))
-    ∷ case (printed k1) (bytes "  state0 => StateData() {\n    a => state1\n  }\n  state1 => StateData(early(0) ) {\n  }\n")
+    ∷ case (printedOf k1) (bytes "  state0 => StateData() {\n    a => state1\n  }\n  state1 => StateData(early(0) ) {\n  }\n")
+    -- "an empty line if there are no states", and "only a line as `refused 3`"
+    ∷ case (printedOf (1 ∷ 65535 ∷ 0 ∷ 0 ∷ all 0 0)) (bytes "\nerror 0\n")
+    ∷ case (printedOf (4 ∷ 1 ∷ 1 ∷ 1 ∷ [])) (bytes "refused 3\n")
     -- K2: K1 on `ab`: leaf 0, end 1, by the table and by the graph
     ∷ case (readBoth k1 (bytes "ab")) (0 ∷ 1 ∷ 0 ∷ 1 ∷ 0 ∷ 1 ∷ 0 ∷ 1 ∷ [])
     -- K3: its scan: token 0 to 1, gap 1 to 2, ended, then 16
@@ -63,7 +66,7 @@ table =
     ∷ case (refusalOf k4) (0 ∷ [])
     ∷ case (graphOf k4) (1 ∷ 0 ∷ replicate 258 65535)
     ∷ case (errorsOf k4) (2 ∷ 2 ∷ 0 ∷ 1 ∷ [])
-    ∷ case (printed k4) (bytes "  state0 => StateData() {\n  }\nerror 2 0 1\n")
+    ∷ case (printedOf k4) (bytes "  state0 => StateData() {\n  }\nerror 2 0 1\n")
     -- K5: 5 to 10 and 12 to 16: cost 3. K6: 0 to 255: 0. K7: byte 7 alone: 1. K8: all but 128: 1
     ∷ case (costOf (rest (span 5 6 ++ span 1 5))) (3 ∷ [])
     ∷ case (costOf (rest (span 0 256))) (0 ∷ [])

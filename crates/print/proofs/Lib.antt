@@ -1,0 +1,3 @@
+pub mod Errors
+pub mod Answers
+pub mod Rooms
