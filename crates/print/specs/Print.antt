@@ -26,10 +26,12 @@ printedBuild b = line (displayed (b .graph)) ++ flatMap (λ e. line (conflictLin
 unfoldable pub refusedLine : ℕ → List ℕ
 refusedLine n = line (bytes "refused " ++ decimal n)
 
+-- by what a build answers
 abbrev pub printedBy : Answer → Built → List ℕ
 printedBy (Made c) b = printedBuild b
 printedBy (Refused n) b = refusedLine n
 
+-- all that is printed for an image
 unfoldable pub printed : List ℕ → List ℕ
 printed image = printedBy (imageOf image space space .answer) (build (tableOf (wordsOf image)))
 
