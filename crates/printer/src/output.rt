@@ -4,7 +4,7 @@ use crate::moved::Step;
 
 // Writes all of a text, in as many writes as it takes, or tells on standard error why not; answers whether all of it was written. As in
 // `read_all`, the writes are counted.
-pub fn write_all(text: &[u8]) -> bool {
+pub(crate) fn write_all(text: &[u8]) -> bool {
     let mut done: usize = 0;
     let mut writes = u64::MAX;
     while writes > 0 {
