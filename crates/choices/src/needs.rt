@@ -6,11 +6,6 @@ ghost use Rattle.plan_rules.specs.Plan.{base, needs};
 ghost use Rattle.choices.specs.Needs.{grownBy};
 use mask_store::MaskStore;
 
-extern "C" {
-    fn never() -> usize
-        ensures { λ r. ⌜ 0 ≡ 1 ⌝ };
-}
-
 
 // Whether a store takes classes, and the store with them; as it was if not.
 pub struct Grown {
@@ -23,7 +18,6 @@ pub fn grow(graph: &[u16], store: MaskStore) -> Grown
     requires { ⌜ graphFits (now graph) ≡ true ⌝ }
     ensures { λ r. ⌜ r ≡ grownBy store (needs base (graphFrom (now (graph .entry)))) ⌝ }
 {
-    let x = never();
     Grown {
         taken: false,
         store: store,

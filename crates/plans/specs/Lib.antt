@@ -1,2 +1,4 @@
 pub mod Scan
 pub mod List
+pub mod Plan
+pub mod Run

@@ -3,4 +3,7 @@
 // What each call answers is defined in specs/Scan.antt; that a scan moves on and ends is in proofs/Scans.antt.
 
 pub mod list;
+pub mod plan;
+pub mod planned;
+pub mod run;
 pub mod scan;
