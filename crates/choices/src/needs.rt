@@ -6,7 +6,6 @@ ghost use Rattle.plan_rules.specs.Plan.{base, needs};
 ghost use Rattle.choices.specs.Needs.{grownBy};
 use mask_store::MaskStore;
 
-
 // Whether a store takes classes, and the store with them; as it was if not.
 pub struct Grown {
     pub taken: bool,

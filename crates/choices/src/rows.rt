@@ -37,8 +37,7 @@ pub fn write(graph: &[u16], plan: &mut [u16], tables: &[u8; 2048], count: usize)
     requires { ⌜ planSize base (graphFrom (now graph)) ≤ length (now plan) ⌝ }
     requires { ⌜ (count ≤ 64) × (length (now tables) ≡ 2048) ⌝ }
     ensures { λ _. ⌜ now (plan .exit) ≡ planWords base (held (storeOf (now (tables .entry)) count)) (graphFrom (now (graph .entry))) ++ drop (planSize base (graphFrom (now (graph .entry)))) (now (plan .entry)) ⌝ }
-{
-}
+{}
 
 // Whether the words begin with the plan.
 pub fn agrees(graph: &[u16], plan: &[u16], tables: &[u8; 2048], count: usize) -> bool

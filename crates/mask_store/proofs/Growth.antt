@@ -49,21 +49,21 @@ all-new tables n (c ∷ new) w h a (suc i) l =
 -- ---- the store that has grown
 
 module _ (s : MaskStore) (cs : List Class) (size : length (s .tables) ≡ 2048) (wide : allL whole cs ≡ true) (room : length (heldWith s cs) ≤ 64) where
-  grows : Grows whole (held s) (heldWith s cs)
+  pub grows : Grows whole (held s) (heldWith s cs)
   unfolding heldWith
   grows = met-grows whole (held s) cs wide
 
-  new-is : drop (s .count) (heldWith s cs) ≡ grows .new
+  pub new-is : drop (s .count) (heldWith s cs) ≡ grows .new
   new-is = ap (drop (s .count)) (grows .split) ∙ drop-at (held s) (grows .new) (s .count) (length-held s)
 
-  fits : s .count + length (grows .new) ≤ 64
+  pub fits : s .count + length (grows .new) ≤ 64
   fits = omega (arith, ap length (grows .split), length-append (held s) (grows .new), length-held s)
 
-  tables-are : grown s cs .tables ≡ writtenAll (s .tables) (s .count) (grows .new)
+  pub tables-are : grown s cs .tables ≡ writtenAll (s .tables) (s .count) (grows .new)
   unfolding grown
   tables-are = ap (writtenAll (s .tables) (s .count)) new-is
 
-  count-is : grown s cs .count ≡ s .count + length (grows .new)
+  pub count-is : grown s cs .count ≡ s .count + length (grows .new)
   unfolding grown
   count-is = omega (arith, ap length (grows .split), length-append (held s) (grows .new), length-held s)
 

@@ -2,6 +2,7 @@ pub mod Numbers
 pub mod Search
 pub mod MaskLaws
 pub mod Growth
+pub mod GrownBits
 pub mod Adding
 pub mod Several
 pub mod Writing

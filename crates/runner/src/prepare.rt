@@ -11,5 +11,4 @@ pub fn prepare(graph: &[u16], ends: &mut [u16], tests: &mut [u8])
     requires { ⌜ (length (now ends) ≡ 2048) × (length (now tests) ≡ 24576) ⌝ }
     ensures { λ _. ⌜ Prepared (graphFrom (now (graph .entry))) (now (ends .exit)) (now (tests .exit)) ⌝ }
     ensures sizes { λ _. ⌜ (length (now (ends .exit)) ≡ 2048) × (length (now (tests .exit)) ≡ 24576) ⌝ }
-{
-}
+{}

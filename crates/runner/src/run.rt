@@ -12,7 +12,14 @@ ghost use Rattle.runner.specs.Prepared.{Prepared, PlanOn};
 use graph::read::Record;
 
 // The last record of the run.
-pub fn run(graph: &[u16], plan: &[u16], tables: &[u8; 2048], ends: &[u16], tests: &[u8], text: &[u8]) -> Record
+pub fn run(
+    graph: &[u16],
+    plan: &[u16],
+    tables: &[u8; 2048],
+    ends: &[u16],
+    tests: &[u8],
+    text: &[u8],
+) -> Record
     requires { ⌜ graphFits (now graph) ≡ true ⌝ }
     requires { ⌜ (planSize base (graphFrom (now graph)) ≤ length (now plan)) × PlanOn (graphFrom (now graph)) (now plan) ⌝ }
     requires { ⌜ length (now tables) ≡ 2048 ⌝ }
