@@ -1,0 +1,211 @@
+-- Planning on a store that holds a plan's classes under its numbers gives that plan and adds nothing: no class stands twice, so that numbers are
+-- unique. Assumes nothing.
+use mathlib.Core.Path.{_≡_, refl, sym, ap, subst, _∙_}
+use mathlib.Core.Bool.{Bool, true, cond, _&&_}
+use mathlib.Core.List.{List, [], _∷_, _++_, map}
+use Prim.Native.Nat.{ℕ, suc, _+_, _-_, _≤_, _<_, zero-le}
+use native.Mathlib.Omega.{arith}
+use borrow.Author.Tests.{eqb-true, eq-eqb, ltb-true, lt-ltb, leb-true, le-leb}
+use lib.Dec.{eqb, leb, ltb}
+use lib.ListN.{length, getD, take, replicate}
+use Rattle.lists.specs.Lists.{below, anyL, allL, eqList}
+use Rattle.lists.proofs.Elements.{eqb-sound, list-sound}
+use Rattle.rules.specs.Graph.{State, Graph, stateOf}
+use Rattle.classes.specs.Classes.{Class}
+use Rattle.mask_store.specs.declared.MaskStore.{MaskStore}
+use Rattle.mask_store.specs.Masks.{classAt, held, sameClass, numberOf, among, noneTwice, met, heldWith, grown, allowed, takes}
+use Rattle.lists.proofs.Bools.{Is, yes-is, no-is, is, and-both, and-intro, or-left, or-right}
+use Rattle.mask_store.proofs.Numbers.{same-eq, number-own, number-stays, met-all, met-has}
+use Rattle.mask_store.proofs.MaskLaws.{length-held, held-at}
+use Rattle.mask_store.proofs.Growth.{grown-none}
+use Rattle.edges.specs.Edges.{classTo, targets}
+use Rattle.plan_rules.specs.Plan.{Settings, Sane, Way, bySelf, byTests, byMask, byTable, wayTo, masked, selfNeeds, edgeNeeds, stateNeeds, needs, selfWord, wayWord, edgeWords, planRow, planWords, planOf, holdsPlan, planSize}
+use Rattle.plan_rules.specs.Run.{edgeHeld, rowHeld, rowsOf, isPlan}
+use Rattle.plan_rules.proofs.Lists.{all-append, append-all, all-replicate, all-weaker, flat-same, flat-all, flat-map}
+use Rattle.plan_rules.proofs.RunIsWalk.{length-planWords, rows-are}
+
+-- ---- a state's words depend on the numbers of the classes that it needs
+
+module _ (set : Settings) (a b : List Class) (count : ℕ) where
+  -- the two number this class alike, and below the count
+  abbrev pub alike : Class → Bool
+  alike c = eqb (numberOf a c) (numberOf b c) && ltb (numberOf a c) count
+
+  alike-number : (c : Class) → allL alike (c ∷ []) ≡ true → numberOf a c ≡ numberOf b c
+  alike-number c h = eqb-true _ _ (and-both (eqb (numberOf a c) (numberOf b c)) _ (and-both (alike c) _ h .0) .0)
+
+  alike-below : (c : Class) → allL alike (c ∷ []) ≡ true → numberOf a c < count
+  alike-below c h = ltb-true _ _ (and-both (eqb (numberOf a c) (numberOf b c)) _ (and-both (alike c) _ h .0) .1)
+
+  way-same : (w : Way) (c : Class) → allL alike (masked w c) ≡ true → wayWord a w c ≡ wayWord b w c
+  way-same bySelf c h = refl
+  way-same byTests c h = refl
+  way-same byMask c h = ap (λ (n : ℕ). suc (suc n)) (alike-number c h)
+
+  way-held : (w : Way) (c : Class) → allL alike (masked w c) ≡ true → edgeHeld count (wayWord a w c) ≡ true
+  way-held bySelf c h = or-left _ _ (lt-ltb 0 (2 + count) (omega arith))
+  way-held byTests c h = or-left _ _ (lt-ltb 1 (2 + count) (omega arith))
+  way-held byMask c h = or-left _ _ (lt-ltb _ (2 + count) (let l = alike-below c h in omega arith))
+
+  module _ (st : State) (s : ℕ) (ts : List ℕ) where
+    self-same : allL alike (selfNeeds st s ts) ≡ true → selfWord a st s ts ≡ selfWord b st s ts
+    unfolding selfNeeds selfWord
+    self-same h = go (is (anyL (eqb s) ts))
+      where
+        go : Is (anyL (eqb s) ts) → cond (anyL (eqb s) ts) (suc (numberOf a (classTo st s))) 0 ≡ cond (anyL (eqb s) ts) (suc (numberOf b (classTo st s))) 0
+        go (yes-is q) = rw q (ap suc (alike-number (classTo st s) (rw q at h)))
+        go (no-is q) = rw q
+
+    self-held : allL alike (selfNeeds st s ts) ≡ true → selfWord a st s ts ≤ count
+    unfolding selfNeeds selfWord
+    self-held h = go (is (anyL (eqb s) ts))
+      where
+        go : Is (anyL (eqb s) ts) → cond (anyL (eqb s) ts) (suc (numberOf a (classTo st s))) 0 ≤ count
+        go (yes-is q) = rw q (alike-below (classTo st s) (rw q at h))
+        go (no-is q) = rw q zero-le
+
+    abbrev maskedTo : ℕ → List Class
+    maskedTo u = masked (wayTo set st s u) (classTo st u)
+
+    abbrev wordIn : List Class → ℕ → ℕ
+    wordIn all u = wayWord all (wayTo set st s u) (classTo st u)
+
+    edges-same : allL alike (edgeNeeds set st s ts) ≡ true → edgeWords set a st s ts ≡ edgeWords set b st s ts
+    unfolding edgeNeeds edgeWords
+    edges-same h = go (is (byTable set ts))
+      where
+        go : Is (byTable set ts) → cond (byTable set ts) (replicate (set .words) 65535) (map (wordIn a) ts ++ replicate (set .words - length ts) 0)
+            ≡ cond (byTable set ts) (replicate (set .words) 65535) (map (wordIn b) ts ++ replicate (set .words - length ts) 0)
+        go (yes-is q) = rw q
+        go (no-is q) =
+            let e : map (wordIn a) ts ≡ map (wordIn b) ts = flat-map alike maskedTo (wordIn a) (wordIn b) (λ u. way-same (wayTo set st s u) (classTo st u)) ts (rw q at h) in
+            rw q (ap (λ (l : List ℕ). l ++ replicate (set .words - length ts) 0) e)
+
+    edges-held : allL alike (edgeNeeds set st s ts) ≡ true → allL (edgeHeld count) (edgeWords set a st s ts) ≡ true
+    unfolding edgeNeeds edgeWords
+    edges-held h = go (is (byTable set ts))
+      where
+        go : Is (byTable set ts) → allL (edgeHeld count) (cond (byTable set ts) (replicate (set .words) 65535) (map (wordIn a) ts ++ replicate (set .words - length ts) 0)) ≡ true
+        go (yes-is q) = rw q (all-replicate (edgeHeld count) (set .words) 65535 (or-right (ltb 65535 (2 + count)) _ refl))
+        go (no-is q) =
+            rw q (append-all (edgeHeld count) (map (wordIn a) ts) (replicate (set .words - length ts) 0)
+            (flat-all alike maskedTo (edgeHeld count) (wordIn a) (λ u. way-held (wayTo set st s u) (classTo st u)) ts (rw q at h))
+            (all-replicate (edgeHeld count) (set .words - length ts) 0 (or-left _ _ (lt-ltb 0 (2 + count) (omega arith)))))
+
+  module _ (g : Graph) (s : ℕ) where
+    abbrev st-of : State
+    st-of = stateOf g s
+
+    abbrev ts-of : List ℕ
+    ts-of = targets (length (g .states)) st-of
+
+    pub row-same : allL alike (stateNeeds set g s) ≡ true → planRow set a g s ≡ planRow set b g s
+    unfolding stateNeeds planRow
+    row-same h =
+        let q = all-append alike (selfNeeds st-of s ts-of) (edgeNeeds set st-of s ts-of) h in
+        let e = self-same st-of s ts-of (q .0) in
+        let e′ = edges-same st-of s ts-of (q .1) in
+        rw (e, e′)
+
+    pub row-below : allL alike (stateNeeds set g s) ≡ true → rowHeld count (planRow set a g s) ≡ true
+    unfolding stateNeeds planRow
+    row-below h =
+        let q = all-append alike (selfNeeds st-of s ts-of) (edgeNeeds set st-of s ts-of) h in
+        and-intro (leb (selfWord a st-of s ts-of) count) _ (le-leb _ _ (self-held st-of s ts-of (q .0))) (edges-held st-of s ts-of (q .1))
+
+-- ---- a row may be written as soon as its own classes are met: what is met later changes none of its numbers
+
+pub row-now : (set : Settings) (g : Graph) (s : ℕ) (l later : List Class) → planRow set (met l (stateNeeds set g s)) g s ≡ planRow set (met (met l (stateNeeds set g s)) later) g s
+row-now set g s l later =
+    row-same set now (met now later) (length now) g s (all-weaker (among now) (alike set now (met now later) (length now)) one (stateNeeds set g s) (met-has l (stateNeeds set g s)))
+  where
+    now : List Class
+    now = met l (stateNeeds set g s)
+
+    one : (c : Class) → among now c ≡ true → alike set now (met now later) (length now) c ≡ true
+    one c h = and-intro _ _ (eq-eqb _ _ (sym (number-stays now later c h))) h
+
+-- ---- G
+
+module _ (set : Settings) (sane : Sane set) (g : Graph) (store other : MaskStore) (fine : allowed other ≡ true) (holds : holdsPlan set g store other ≡ true) where
+  abbrev all : List Class
+  all = heldWith store (needs set g)
+
+  few : other .count ≤ 64
+  unfolding allowed
+  few = leb-true _ _ (and-both (leb (other .count) 64) _ fine .0)
+
+  once : noneTwice (held other) ≡ true
+  unfolding allowed
+  once = and-both (leb (other .count) 64) _ fine .1
+
+  abbrev holdsOne : Class → Bool
+  holdsOne c = ltb (numberOf all c) (other .count) && sameClass (classAt (other .tables) (numberOf all c)) c
+
+  -- a class that is held under a number has that number
+  one-number : (c : Class) → holdsOne c ≡ true → (numberOf (held other) c ≡ numberOf all c) × (numberOf all c < other .count)
+  one-number c h =
+      let q = and-both (ltb (numberOf all c) (other .count)) _ h in
+      let l : numberOf all c < other .count = ltb-true _ _ (q .0) in
+      let e : getD (held other) (numberOf all c) [] ≡ c = held-at other (numberOf all c) l ∙ same-eq _ _ (q .1) in
+      (ap (numberOf (held other)) (sym e) ∙ number-own (held other) once (numberOf all c) (subst (λ (m : ℕ). numberOf all c < m) (sym (length-held other)) l), l)
+
+  one-alike : (c : Class) → holdsOne c ≡ true → alike set all (held other) (other .count) c ≡ true
+  one-alike c h = let (e, l) = one-number c h in and-intro _ _ (eq-eqb _ _ (sym e)) (lt-ltb _ _ l)
+
+  one-among : (c : Class) → holdsOne c ≡ true → among (held other) c ≡ true
+  one-among c h = let (e, l) = one-number c h in lt-ltb (numberOf (held other) c) (length (held other)) (omega (arith, length-held other))
+
+  all-alike : allL (alike set all (held other) (other .count)) (needs set g) ≡ true
+  unfolding holdsPlan
+  all-alike = all-weaker holdsOne (alike set all (held other) (other .count)) one-alike (needs set g) holds
+
+  all-among : allL (among (held other)) (needs set g) ≡ true
+  unfolding holdsPlan
+  all-among = all-weaker holdsOne (among (held other)) one-among (needs set g) holds
+
+  same-held : heldWith other (needs set g) ≡ held other
+  unfolding heldWith
+  same-held = met-all (held other) (needs set g) all-among
+
+  -- nothing is added
+  pub nothing-added : grown other (needs set g) ≡ other
+  nothing-added = grown-none other (needs set g) all-among
+
+  -- 15 does not hold
+  pub room-again : takes other (needs set g) ≡ true
+  unfolding takes
+  room-again = and-intro (allowed other) _ fine (le-leb (length (heldWith other (needs set g))) 64 (omega (arith, ap length same-held, length-held other, few)))
+
+  words-same : planWords set all g ≡ planWords set (held other) g
+  unfolding planWords needs
+  words-same =
+      flat-same (alike set all (held other) (other .count)) (stateNeeds set g) (planRow set all g) (planRow set (held other) g)
+      (row-same set all (held other) (other .count) g) (below (length (g .states))) all-alike
+
+  -- the same plan
+  pub same-plan : planOf set g other ≡ planOf set g store
+  unfolding planOf
+  same-plan = ap (λ (l : List Class). planWords set l g) same-held ∙ sym words-same
+
+  plan-length : length (planOf set g store) ≡ planSize set g
+  unfolding planOf
+  plan-length = length-planWords set sane all g
+
+  rows-held : (rest : List ℕ) → allL (rowHeld (other .count)) (rowsOf set g (planOf set g store ++ rest)) ≡ true
+  unfolding planOf needs
+  rows-held rest =
+      ap (allL (rowHeld (other .count))) (rows-are set sane all g rest)
+      ∙ flat-all (alike set all (held other) (other .count)) (stateNeeds set g) (rowHeld (other .count)) (planRow set all g)
+      (row-below set all (held other) (other .count) g) (below (length (g .states))) all-alike
+
+  -- and a run takes it, whatever follows it in its buffer
+  pub plan-taken : (rest : List ℕ) → isPlan set g (planOf set g store ++ rest) other ≡ true
+  unfolding isPlan
+  plan-taken rest =
+      let e : take (planSize set g) (planOf set g store ++ rest) ≡ planOf set g store = lib.Seq.take-at (planOf set g store) rest (planSize set g) plan-length in
+      and-intro (eqList eqb (take (planSize set g) (planOf set g store ++ rest)) (planOf set g other)) _
+      (rw (e, same-plan) (list-sound eqb eqb-sound .self (planOf set g store))) (rows-held rest)
+
+  pub plan-long : (rest : List ℕ) → planSize set g ≤ length (planOf set g store ++ rest)
+  plan-long rest = omega (arith, lib.ListN.length-append (planOf set g store) rest, plan-length)
