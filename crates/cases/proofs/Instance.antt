@@ -1,23 +1,35 @@
--- K1's table is clean and K4's is clean but for its tie, and both builds are answered: the promises speak of at least these. Assumes nothing.
+-- K1's table is clean and K4's is clean but for its tie, both builds are answered, and so is planning the words of K1's, and those of a
+-- table whose plan has a mask: the promises speak of at least these. Assumes nothing.
 use mathlib.Core.Path.{_≡_, refl, sym}
 use mathlib.Core.Bool.{true}
-use mathlib.Core.List.{[], _∷_}
+use mathlib.Core.List.{List, [], _∷_, _++_}
 use mathlib.Core.Option.{some}
 use Prim.Native.Nat.{ℕ, zero, suc, _<_}
 use native.Mathlib.Omega.{arith}
 use borrow.Author.Tests.{eqb-true}
 use lib.Dec.{eqb}
-use lib.ListN.{length, replicate}
+use lib.ListN.{length, replicate, length-replicate}
 use Rattle.lists.specs.Lists.{allL}
 use Rattle.lists.proofs.Bools.{none-some}
 use Rattle.lists.proofs.Elements.{all-at}
 use Rattle.rules.specs.Table.{Table, tableOf, step, rowOf}
 use Rattle.rules.specs.Build.{build, emptyLeaves, chain, leafOf}
-use Rattle.rules.specs.Read.{Orderly, Clean}
+use Rattle.rules.specs.Graph.{graphBuffer, stateFrom, graphFrom, graphFits}
+use Rattle.rules.specs.Read.{Bytes, Orderly, Clean}
+use Rattle.graph.specs.Answers.{tableRead}
 use Rattle.graph.specs.New.{conflicts, wrote, wroteOr9, writtenOr, newOf}
 use Rattle.graph.specs.declared.new.Answer.the-variants.{Built as Made}
-use Rattle.cases.specs.Answers.{refusalOf, graphOf}
-use Rattle.cases.specs.Table.{k1, k4}
+use Rattle.mask_store.specs.declared.MaskStore.{MaskStore}
+use Rattle.mask_store.specs.Masks.{tableAt, classAt, held, written, heldWith, grown, allowed, takes}
+use Rattle.edges.specs.Edges.{classTo, leadsTo, targets}
+use Rattle.plan_rules.specs.Plan.{base, byTable, wayTo, selfNeeds, edgeNeeds, stateNeeds, needs, selfWord, edgeWords, planRow, planWords, planOf}
+use Rattle.plan_rules.proofs.RunIsWalk.{base-sane}
+use Rattle.plans.specs.declared.plan.PlanAnswer.the-variants.{Planned}
+use Rattle.plans.specs.Plan.{PlanCall, planCall}
+use Rattle.plans.specs.Run.{runCall}
+use Rattle.plans.proofs.Demand3.{own-alike}
+use Rattle.cases.specs.Answers.{costOf, refusalOf, graphOf}
+use Rattle.cases.specs.Table.{by, all, k1, k4}
 
 -- a table whose state 0 has 257 steps, all to itself
 zero-step : (t : Table) → allL (eqb 0) (rowOf t 0 .steps) ≡ true → length (rowOf t 0 .steps) ≡ 257 → (c : ℕ) → c < 257 → step t 0 c ≡ 0
@@ -65,6 +77,86 @@ k1-clean =
 pub k1-made : newOf k1 (replicate 1035 7) (7 ∷ []) .answer ≡ Made (record { states = 2; root = 0; errors = 0; words = 0 })
 unfolding k1 refusalOf graphOf newOf writtenOr wroteOr9 wrote conflicts
 k1-made = refl
+
+-- planning the words that this build returned, on an empty store: no class is added
+abbrev pub k1-words : List ℕ
+k1-words = newOf k1 (replicate 1035 7) (7 ∷ []) .graph
+
+unfoldable pub emptied : MaskStore
+emptied = record { tables = replicate 2048 0; count = 0 }
+
+abbrev pub k1-call : PlanCall
+k1-call = planCall base k1-words (replicate 7 7) emptied
+
+pub k1-planned : k1-call .planning .answer ≡ Planned 0
+unfolding k1 refusalOf graphOf newOf writtenOr wroteOr9 wrote conflicts emptied costOf graphBuffer stateFrom graphFrom graphFits tableAt classAt held written heldWith grown allowed takes classTo leadsTo targets byTable wayTo selfNeeds edgeNeeds stateNeeds needs selfWord edgeWords planRow planWords planOf planCall
+k1-planned = refl
+
+emptied-size : length (emptied .tables) ≡ 2048
+unfolding emptied
+emptied-size = length-replicate {A = ℕ} 2048 0
+
+-- so of every text the run by that plan, on the store that planning left, answers the table's reading
+pub k1-runs : (text : List ℕ) → Bytes text → runCall base k1-words (k1-call .buffer) (k1-call .planning .store) text ≡ tableRead k1 text
+k1-runs = own-alike base base-sane k1 (replicate 1035 7) (7 ∷ []) _ k1-made k1-clean (replicate 7 7) emptied emptied-size 0 k1-planned
+
+-- ---- a table whose graph has a self edge: state 1 goes by `a` to 2, which `a` leads back to, and every other byte and the end to 3, where a leaf is
+
+unfoldable pub looped : List ℕ
+looped = 4 ∷ 1 ∷ 1 ∷ 1 ∷ 2 ∷ 0 ∷ 0 ∷ (all 0 0 ++ (by 97 2 ++ (replicate 97 3 ++ 2 ∷ (replicate 159 3 ++ 0 ∷ (all 0 1 ++ 0 ∷ 0 ∷ [])))))
+
+looped-zero : allL (eqb 0) (rowOf (tableOf looped) 0 .steps) ≡ true
+unfolding looped graphOf
+looped-zero = refl
+
+looped-long : length (rowOf (tableOf looped) 0 .steps) ≡ 257
+unfolding looped graphOf
+looped-long = refl
+
+looped-ends : (s l : ℕ) → ((b : ℕ) → b < 256 → leafOf (tableOf looped) (step (tableOf looped) s b) ≡ some l) → step (tableOf looped) s 256 ≡ 0 → ⊥
+unfolding looped graphOf
+looped-ends zero l h e = none-some (h 0 (omega arith))
+looped-ends (suc zero) l h e = none-some (h 0 (omega arith))
+looped-ends (suc (suc zero)) l h e = let z : _≡_ {A = ℕ} 3 0 = e in omega arith
+looped-ends (suc (suc (suc zero))) l h e = none-some (h 0 (omega arith))
+looped-ends (suc (suc (suc (suc s)))) l h e = none-some (h 0 (omega arith))
+
+looped-no-error : build (tableOf looped) .errors ≡ []
+unfolding looped graphOf
+looped-no-error = refl
+
+looped-no-chain : chain (tableOf looped) 0 ≡ []
+unfolding looped graphOf
+looped-no-chain = refl
+
+pub looped-clean : Clean (tableOf looped)
+looped-clean =
+    record {
+      no-error = looped-no-error;
+      orderly = record {
+        zero-chain = looped-no-chain;
+        zero-steps = zero-step (tableOf looped) looped-zero looped-long;
+        end-too = λ s₀ s l st r h e. looped-ends s l h e;
+      };
+    }
+
+pub looped-made : newOf looped (replicate 1034 7) [] .answer ≡ Made (record { states = 3; root = 0; errors = 0; words = 0 })
+unfolding looped refusalOf graphOf newOf writtenOr wroteOr9 wrote conflicts
+looped-made = refl
+
+abbrev pub looped-words : List ℕ
+looped-words = newOf looped (replicate 1034 7) [] .graph
+
+-- planning it on an empty store adds the class of `a`
+abbrev pub looped-call : PlanCall
+looped-call = planCall base looped-words (replicate 9 7) emptied
+
+pub looped-planned : looped-call .planning .answer ≡ Planned 1
+unfolding looped refusalOf graphOf newOf writtenOr wroteOr9 wrote conflicts emptied costOf graphBuffer stateFrom graphFrom graphFits tableAt classAt held written heldWith grown allowed takes classTo leadsTo targets byTable wayTo selfNeeds edgeNeeds stateNeeds needs selfWord edgeWords planRow planWords planOf planCall
+looped-planned = refl
+
+pub looped-runs : (text : List ℕ) → Bytes text → runCall base looped-words (looped-call .buffer) (looped-call .planning .store) text ≡ tableRead looped text
+looped-runs = own-alike base base-sane looped (replicate 1034 7) [] _ looped-made looped-clean (replicate 9 7) emptied emptied-size 1 looped-planned
 
 -- ---- K4
 

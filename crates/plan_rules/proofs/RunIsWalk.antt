@@ -1,7 +1,7 @@
 -- The planned run of a text is its reading by the graph. The run and the walk go byte by byte; in a state that the byte leads back to, the run
 -- passes it and the walk enters the state again, which records what counts. Assumes nothing.
 use mathlib.Core.Path.{_≡_, refl, sym, ap, subst, _∙_}
-use mathlib.Core.Bool.{true, cond, false≢true}
+use mathlib.Core.Bool.{true, false, cond, false≢true}
 use mathlib.Core.List.{List, [], _∷_, _++_, map, flatMap}
 use mathlib.Core.Option.{Option, none, some}
 use mathlib.Core.Logic.{_⊎_, inl, inr}
@@ -33,19 +33,22 @@ base-sane = record { enough = omega arith; some-word = omega arith }
 -- ---- the rows of a plan
 
 module _ (set : Settings) (sane : Sane set) (all : List Class) (g : Graph) where
+  -- where no table is used, each edge has its word
+  edges-fit : (ts : List ℕ) → byTable set ts ≡ false → length ts ≤ set .words
+  unfolding byTable
+  edges-fit ts q = let h : length ts ≤ set .edges = ltb-false _ _ q in let k : set .edges ≤ set .words = sane .enough in omega arith
+
   edges-length : (st : State) (s : ℕ) (ts : List ℕ) → length (edgeWords set all st s ts) ≡ set .words
-  unfolding edgeWords byTable
-  edges-length st s ts = go (is (ltb (set .edges) (length ts)))
+  unfolding edgeWords
+  edges-length st s ts = go (is (byTable set ts))
     where
       word : ℕ → ℕ
       word u = wayWord all (wayTo set st s u) (classTo st u)
 
-      go : Is (ltb (set .edges) (length ts))
-          → length (cond (ltb (set .edges) (length ts)) (replicate (set .words) 65535) (map word ts ++ replicate (set .words - length ts) 0)) ≡ set .words
+      go : Is (byTable set ts) → length (cond (byTable set ts) (replicate (set .words) 65535) (map word ts ++ replicate (set .words - length ts) 0)) ≡ set .words
       go (yes-is q) = rw q (length-replicate (set .words) 65535)
       go (no-is q) =
-          let h : length ts ≤ set .edges = ltb-false _ _ q in
-          let k = sane .enough in
+          let h : length ts ≤ set .words = edges-fit ts q in
           rw q (omega (arith, length-append (map word ts) (replicate (set .words - length ts) 0), length-map ts word, length-replicate {A = ℕ} (set .words - length ts) 0))
 
   pub row-length : (s : ℕ) → length (planRow set all g s) ≡ suc (set .words)
