@@ -27,16 +27,16 @@ pub fn fork_at(graph: &[u16], s: usize) -> Fork
     let mut high: usize = 0;
     let mut u: usize = 0;
     while u < n {
-        if leads[u] {
-            if count == 0 {
-                low = u;
-            }
-            if count == 1 {
-                high = u;
-            }
-            count += 1;
-        }
+        let target = u;
         u += 1;
+        if leads[target] {
+            count += 1;
+            if count == 1 {
+                low = target;
+            } else if count == 2 {
+                high = target;
+            }
+        }
     }
     Fork {
         count: count,

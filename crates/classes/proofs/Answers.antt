@@ -45,7 +45,7 @@ module _ (ms : List Comparison) {laid : Comparisons} (e : laid ≡ asComparisons
       let at : (f : Comparison → ℕ) → getD (row (map f ms)) i 0 ≡ f (getD ms i none) = λ f. column-get f ms i none n in
       rw (e, at (λ m. m .range .first), at (λ m. m .range .last), at (λ m. length (m .except)), add-one i, drop-cons ms i none n)
 
-listed-laid : (ms : List Comparison) (f l h x : List ℕ)
+pub listed-laid : (ms : List Comparison) (f l h x : List ℕ)
     → listed (length ms) (map (λ m. m .range .first) ms ++ f) (map (λ m. m .range .last) ms ++ l) (map (λ m. length (m .except)) ms ++ h) (exceptions ms ++ x) ≡ ms
 listed-laid [] f l h x = refl
 listed-laid (m ∷ ms) f l h x =

@@ -5,3 +5,4 @@ pub mod Answers
 pub mod FlagPass
 pub mod Joining
 pub mod Listed
+pub mod Few

@@ -37,7 +37,7 @@ pub fn accepted(accept: usize, k: usize, r: Record) -> Record
 }
 
 // The record at a state with these marks, entered by k byte steps.
-fn entered(marks: usize, k: usize, r: Record) -> Record
+pub fn entered(marks: usize, k: usize, r: Record) -> Record
     ensures { λ q. ⌜ recorded (q .leaf) (q .end) ≡ mark (orNone 255 (marks / 256)) (orNone 255 (marks % 256)) k (recorded (r .leaf) (r .end)) ⌝ }
 {
     let early = marks / 256;

@@ -3,6 +3,9 @@ pub mod Entries
 pub mod Filling
 pub mod ListAnswers
 pub mod EndToEnd
+pub mod Planning
+pub mod Running
+pub mod PlannedScans
 pub mod StoreAfter
 pub mod Unrefused
 pub mod Demand3

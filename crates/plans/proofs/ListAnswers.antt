@@ -15,6 +15,10 @@ use Rattle.plans.specs.List.{Listing, ScanList, listFor, noList, someLis
 use Rattle.plans.proofs.Entries.{scan-past, scan-over}
 use Rattle.plans.proofs.Scans.{Step, a-token, a-gap, the-end, scan-step}
 
+-- both parts of an outcome
+pub both : {x y : ScanList} → x ≡ y → (y .listed ≡ x .listed) × (y .buffer ≡ x .buffer)
+both e = (ap (λ (l : ScanList). l .listed) (sym e), ap (λ (l : ScanList). l .buffer) (sym e))
+
 module _ (graph text : List ℕ) (p : Place) (out : List ℕ) where
   abbrev scan : Scan
   scan = record { place = p }

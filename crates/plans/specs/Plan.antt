@@ -24,8 +24,11 @@ pub record PlanCall : Type 0 where
   pub buffer : List ℕ
 
 -- "A refusal returns its number ..; buffers, store and scan are unchanged."
+abbrev pub refusedWith : ℕ → MaskStore → Planning
+refusedWith n store = record { answer = Refused n; store = store }
+
 abbrev pub noPlan : ℕ → List ℕ → MaskStore → PlanCall
-noPlan n buffer store = record { planning = record { answer = Refused n; store = store }; buffer = buffer }
+noPlan n buffer store = record { planning = refusedWith n store; buffer = buffer }
 
 -- graph words, plan buffer, store
 unfoldable pub planCall : Settings → List ℕ → List ℕ → MaskStore → PlanCall

@@ -1,8 +1,8 @@
 // A whole text scanned into a lent buffer: three words an entry, start, end, and leaf or 65,535 for a gap.
 ghost use mathlib.Core.Path.{_≡_};
 ghost use mathlib.Core.Bool.{true};
-ghost use Prim.Native.Nat.{_≤_};
-ghost use lib.ListN.{length};
+ghost use Prim.Native.Nat.{_+_, _*_, _/_, _<_, _≤_};
+ghost use lib.ListN.{length, set};
 ghost use Rattle.rules.specs.Graph.{graphFits};
 ghost use Rattle.plans.specs.List.{leafWord, listFrom, scanList};
 use crate::scan::Entry;
@@ -27,6 +27,17 @@ fn leaf_word(e: Entry) -> usize
     if e.token { e.leaf } else { 65535 }
 }
 
+// Entry n, which begins at an offset, written into its place.
+pub(crate) fn put_entry(out: &mut [usize], n: usize, at: usize, e: Entry)
+    requires { ⌜ n < length (now out) / 3 ⌝ }
+    ensures { λ _. ⌜ now (out .exit) ≡ set (set (set (now (out .entry)) (3 * n) at) (3 * n + 1) (e .end)) (3 * n + 2) (leafWord e) ⌝ }
+{
+    let i = 3 * n;
+    out[i] = at;
+    out[i + 1] = e.end;
+    out[i + 2] = leaf_word(e);
+}
+
 // Entries from an offset on, as many as there is room for, of graph words that 12 takes.
 fn fill(graph: &[u16], text: &[u8], from: usize, out: &mut [usize]) -> Listed
     requires { ⌜ graphFits (now graph) ≡ true ⌝ }
@@ -46,10 +57,7 @@ fn fill(graph: &[u16], text: &[u8], from: usize, out: &mut [usize]) -> Listed
             };
         }
         let e = crate::scan::read_entry(graph, text, at);
-        let i = 3 * n;
-        out[i] = at;
-        out[i + 1] = e.end;
-        out[i + 2] = leaf_word(e);
+        put_entry(out, n, at, e);
         at = e.end;
         n += 1;
     }

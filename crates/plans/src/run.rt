@@ -1,13 +1,60 @@
 // A text run by the plan of a graph.
 ghost use mathlib.Core.Path.{_≡_};
+ghost use mathlib.Core.Bool.{true};
+ghost use Rattle.rules.specs.Graph.{graphFits, graphFrom};
 ghost use Rattle.plan_rules.specs.Plan.{base};
-ghost use Rattle.plans.specs.Run.{runCall};
+ghost use Rattle.plans.specs.Run.{planRefusal, runRefusal, runCall};
 use graph::read::Read;
 use mask_store::MaskStore;
+
+// Why the words are no plan of a graph that 12 takes, on this store: 14 or 15; or 0. A plan that is the one of its graph and store names no mask that
+// the store lacks exactly where the store needs no class more.
+pub(crate) fn refusal(graph: &[u16], plan: &[u16], store: MaskStore) -> u8
+    requires { ⌜ graphFits (now graph) ≡ true ⌝ }
+    ensures { λ r. ⌜ r ≡ planRefusal base (graphFrom (now (graph .entry))) (now (plan .entry)) store ⌝ }
+{
+    let states = words::word(graph, 0);
+    if plan.len() < 3 * states {
+        return 14;
+    }
+    let grown = choices::needs::grow(graph, store);
+    if !grown.taken {
+        return 15;
+    }
+    let after = grown.store;
+    let needed = after.count;
+    let count = store.count;
+    if needed != count {
+        return 14;
+    }
+    let tables = store.tables;
+    if !choices::rows::agrees(graph, plan, &tables, count) {
+        return 14;
+    }
+    0
+}
+
+// The same of any graph words: 12, 14 or 15; or 0.
+fn run_refusal(graph: &[u16], plan: &[u16], store: MaskStore) -> u8
+    ensures { λ r. ⌜ r ≡ runRefusal base (now (graph .entry)) (now (plan .entry)) store ⌝ }
+{
+    if !words::graph::fits(graph) {
+        return 12;
+    }
+    refusal(graph, plan, store)
+}
 
 // The reading of a text by graph words, plan words and a store; or 12, 14 or 15.
 pub fn run(graph: &[u16], plan: &[u16], store: MaskStore, text: &[u8]) -> Read
     ensures { λ r. ⌜ r ≡ runCall base (now (graph .entry)) (now (plan .entry)) store (now (text .entry)) ⌝ }
 {
-    Read::Refused(12)
+    let no = run_refusal(graph, plan, store);
+    if no != 0 {
+        return Read::Refused(no);
+    }
+    let mut ends = [0u16; 2048];
+    let mut tests = [0u8; 24576];
+    runner::prepare::prepare(graph, &mut ends, &mut tests);
+    let tables = store.tables;
+    graph::read::answer(runner::run::run(graph, plan, &tables, &ends, &tests, text))
 }

@@ -1,11 +1,13 @@
 // The scan: it is either reading at an offset or ended.
 ghost use mathlib.Core.Path.{_≡_};
 ghost use mathlib.Core.Bool.{true};
-ghost use Prim.Native.Nat.{_<_};
+ghost use Prim.Native.Nat.{_+_, _<_, _≤_};
 ghost use lib.ListN.{length, drop};
 ghost use Rattle.rules.specs.Graph.{graphFits, graphFrom};
 ghost use Rattle.rules.specs.Read.{readGraph};
+ghost use Rattle.graph.specs.Answers.{recorded};
 ghost use Rattle.plans.specs.Scan.{fresh, gapAt, entryOf, scannedBy, scanOf, next};
+use graph::read::Record;
 
 pub enum Place {
     Reading(usize),
@@ -50,13 +52,12 @@ fn gap(text: &[u8], at: usize) -> Entry
     }
 }
 
-// The token or gap at an offset below the length, of graph words that 12 takes.
-pub fn read_entry(graph: &[u16], text: &[u8], at: usize) -> Entry
-    requires { ⌜ graphFits (now graph) ≡ true ⌝ }
+// The token or gap at an offset below the length, by the last record of a reading from there on, which ends in the text.
+pub(crate) fn entry_by(text: &[u8], at: usize, r: Record) -> Entry
     requires { ⌜ at < length (now text) ⌝ }
-    ensures { λ r. ⌜ r ≡ entryOf (now (text .entry)) at (readGraph (graphFrom (now (graph .entry))) (drop at (now (text .entry)))) ⌝ }
+    requires { ⌜ ((r .leaf ≡ 255 → ⊥) → at + r .end ≤ length (now text)) ⌝ }
+    ensures { λ e. ⌜ e ≡ entryOf (now (text .entry)) at (recorded (r .leaf) (r .end)) ⌝ }
 {
-    let r = graph::read::walk(graph, &text[at..]);
     if r.leaf == 255 {
         return gap(text, at);
     }
@@ -69,6 +70,16 @@ pub fn read_entry(graph: &[u16], text: &[u8], at: usize) -> Entry
         leaf: r.leaf,
         end: end,
     }
+}
+
+// The token or gap at an offset below the length, of graph words that 12 takes.
+pub fn read_entry(graph: &[u16], text: &[u8], at: usize) -> Entry
+    requires { ⌜ graphFits (now graph) ≡ true ⌝ }
+    requires { ⌜ at < length (now text) ⌝ }
+    ensures { λ r. ⌜ r ≡ entryOf (now (text .entry)) at (readGraph (graphFrom (now (graph .entry))) (drop at (now (text .entry)))) ⌝ }
+{
+    let r = graph::read::walk(graph, &text[at..]);
+    entry_by(text, at, r)
 }
 
 // An entry that begins at an offset, as an answer, with the scan after it.

@@ -1,0 +1,5 @@
+pub mod Packed
+pub mod Preparing
+pub mod SelfRun
+pub mod Leading
+pub mod Running

@@ -1,9 +1,10 @@
 -- What is written, and what repeated calls would still give, are together the whole list; the measure is the room that is left. Assumes nothing.
-use mathlib.Core.Path.{_≡_, refl, sym, subst}
-use Prim.Native.Nat.{ℕ, _+_, _-_, _/_, _*_, _<_}
+use mathlib.Core.Path.{_≡_, refl, sym, subst, _∙_}
+use mathlib.Core.List.{List}
+use Prim.Native.Nat.{ℕ, _+_, _-_, _/_, _<_}
 use native.Mathlib.Omega.{arith}
 use borrow.Author.Needs.{needs}
-use lib.ListN.{length, set, length-set}
+use lib.ListN.{length}
 use Rattle.rules.specs.Graph.{graphFrom}
 use Rattle.plans.specs.List.{listFrom}
 use Rattle.plans.proofs.Filling.{Filling, filling-none, filling-more, left-full, left-ends, done-listed, done-buffer}
@@ -11,7 +12,7 @@ use Rattle.plans.proofs.list.fill.Statement.{statement}
 use Rattle.plans.proofs.list.fill.Tie as tie
 use Rattle.plans.proofs.list.fill.Reads as reads
 use Rattle.plans.proofs.list.fill.Lts as lts
-use Rattle.plans.proofs.list.leaf_word.Reads as leaf-word-reads
+use Rattle.plans.proofs.list.put_entry.Reads as put-entry-reads
 use Rattle.plans.proofs.scan.read_entry.Reads as read-entry-reads
 
 abbrev Inv-loop : tie.InvT-loop
@@ -43,35 +44,8 @@ returns c =
 read-entry-requires : tie.Need-read-entry-requires Inv-loop μ-loop
 read-entry-requires c κs = search needs
 
-mul-i : tie.Need-mul-i Inv-loop μ-loop
-mul-i c = search needs
-
-mul-out : tie.Need-mul-out Inv-loop μ-loop
-mul-out c = search needs
-
-slice-write-out : tie.Need-slice-write-out Inv-loop μ-loop
-slice-write-out c = search needs
-
-add-out : tie.Need-add-out Inv-loop μ-loop
-add-out c = search needs
-
-mul-out-2 : tie.Need-mul-out-2 Inv-loop μ-loop
-mul-out-2 c = search needs
-
-slice-write-out-2 : tie.Need-slice-write-out-2 Inv-loop μ-loop
-slice-write-out-2 c = simp length-set (omega arith)
-
-leaf-word-requires : tie.Need-leaf-word-requires Inv-loop μ-loop
-leaf-word-requires c κs = search needs
-
-add-out-2 : tie.Need-add-out-2 Inv-loop μ-loop
-add-out-2 c = search needs
-
-mul-out-3 : tie.Need-mul-out-3 Inv-loop μ-loop
-mul-out-3 c = search needs
-
-slice-write-out-3 : tie.Need-slice-write-out-3 Inv-loop μ-loop
-slice-write-out-3 c = simp length-set (omega arith)
+put-entry-requires : tie.Need-put-entry-requires Inv-loop μ-loop
+put-entry-requires c κs = search needs
 
 add-n : tie.Need-add-n Inv-loop μ-loop
 add-n c = search needs
@@ -81,18 +55,19 @@ loop-less c = search needs
 
 loop-again : tie.Need-loop-again Inv-loop μ-loop
 loop-again c =
-    let at = c .before .before .before .before in
+    let put = c .before .before in
+    let read = put .before .before in
+    let at = read .before .before .before in
     let st = at .before .before .before .before in
     let l = at .loop in
-    let e = c .before .read-entry .result in
-    let w = c .leaf-word .ensures in
-    let inside : l .at < length (st .args .text .now) = omega (arith, c .before .before .if1 .left) in
+    let e = read .read-entry .result in
+    let inside : l .at < length (st .args .text .now) = omega (arith, read .before .if1 .left) in
     let more =
-    filling-more (graphFrom (st .args .graph .now)) (st .args .text .now) (st .args .from) _ (st .args .out .now) (l .out) (l .n) (l .at) (l .inv .1) (c .before .before .before .loop-test .taken)
-    inside (omega arith) e (c .before .read-entry .ensures)
+    filling-more (graphFrom (st .args .graph .now)) (st .args .text .now) (st .args .from) _ (st .args .out .now) (l .out) (l .n) (l .at) (l .inv .1) (read .before .before .loop-test .taken)
+    inside (omega arith) e (read .read-entry .ensures)
     in (
-      simp length-set (l .inv .0),
-      subst (λ (x : ℕ). Filling (graphFrom (st .args .graph .now)) (st .args .text .now) (st .args .from) (length (st .args .out .now) / 3) (st .args .out .now) (set (set (set (l .out) (3 * l .n) (l .at)) (3 * l .n + 1) (e .end)) (3 * l .n + 2) x) (l .n + 1) (e .end)) (sym w) more,
+      put .put-entry .kept .0 ∙ l .inv .0,
+      subst (λ (x : List ℕ). Filling (graphFrom (st .args .graph .now)) (st .args .text .now) (st .args .from) (length (st .args .out .now) / 3) (st .args .out .now) x (l .n + 1) (e .end)) (sym (put .put-entry .ensures)) more,
     )
 
 same-length-2 : tie.Need-same-length-2 Inv-loop μ-loop
@@ -120,16 +95,7 @@ fill-spec =
     same-length
     returns
     read-entry-requires
-    mul-i
-    mul-out
-    slice-write-out
-    add-out
-    mul-out-2
-    slice-write-out-2
-    leaf-word-requires
-    add-out-2
-    mul-out-3
-    slice-write-out-3
+    put-entry-requires
     add-n
     loop-less
     loop-again

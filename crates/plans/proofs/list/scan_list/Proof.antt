@@ -1,8 +1,7 @@
 -- A refusal with everything as found, or the entries from the scan's offset on. Assumes nothing.
-use mathlib.Core.Path.{_≡_, sym, ap, _∙_}
+use mathlib.Core.Path.{sym, _∙_}
 use borrow.Author.Tests.{not-true, not-false}
-use Rattle.plans.specs.List.{ScanList}
-use Rattle.plans.proofs.ListAnswers.{list-unfit, list-past, list-over, list-taken}
+use Rattle.plans.proofs.ListAnswers.{both, list-unfit, list-past, list-over, list-taken}
 use borrow.Author.Needs.{needs}
 use Rattle.plans.proofs.list.scan_list.Statement.{statement}
 use Rattle.plans.proofs.list.scan_list.Tie as tie
@@ -10,10 +9,6 @@ use Rattle.plans.proofs.list.scan_list.Reads as reads
 use Rattle.plans.proofs.list.scan_list.Lts as lts
 use Rattle.plans.proofs.list.fill.Reads as fill-reads
 use Rattle.words.proofs.graph.fits.Reads as fits-reads
-
--- both parts of an outcome
-both : {x y : ScanList} → x ≡ y → (y .listed ≡ x .listed) × (y .buffer ≡ x .buffer)
-both e = (ap (λ (l : ScanList). l .listed) (sym e), ap (λ (l : ScanList). l .buffer) (sym e))
 
 fits-requires : tie.Need-fits-requires
 fits-requires c κs = search needs

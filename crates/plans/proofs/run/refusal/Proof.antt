@@ -1,0 +1,98 @@
+-- Each test by itself. Assumes nothing.
+use mathlib.Core.Path.{_≡_, sym, _∙_}
+use mathlib.Core.Bool.{true}
+use Prim.Native.Nat.{_≤_}
+use native.Mathlib.Omega.{arith}
+use borrow.Author.Tests.{not-true, not-false}
+use lib.ListN.{length}
+use Rattle.rules.proofs.Taken.{taken-long}
+use Rattle.rules.specs.Graph.{graphFrom}
+use Rattle.mask_store.specs.Masks.{grown, takes}
+use Rattle.plan_rules.specs.Plan.{base, needs as needed, planSize}
+use Rattle.plans.proofs.Planning.{size-is, grow-taken, grow-store}
+use Rattle.plans.proofs.Running.{count-few, plan-short, plan-full, plan-lacks, plan-differs, plan-taken}
+use borrow.Author.Needs.{needs}
+use Rattle.plans.proofs.run.refusal.Statement.{statement}
+use Rattle.plans.proofs.run.refusal.Tie as tie
+use Rattle.plans.proofs.run.refusal.Reads as reads
+use Rattle.plans.proofs.run.refusal.Lts as lts
+use Rattle.choices.proofs.needs.grow.Reads as grow-reads
+use Rattle.choices.proofs.rows.agrees.Reads as agrees-reads
+use Rattle.words.proofs.word.Reads as word-reads
+
+-- the plan's words are there
+long : (c : tie.Else1) → let a = c .before .before .before .before .args in planSize base (graphFrom (a .graph .now)) ≤ length (a .plan .now)
+long c = omega (arith, size-is (c .before .before .before .before .args .graph .now) _ (c .before .word .ensures .0))
+
+-- and 15 takes the store, which has grown
+took : (c : tie.Else2) → let a = c .before .before .before .before .before .before .before .args in takes (a .store) (needed base (graphFrom (a .graph .now))) ≡ true
+took c =
+    let at = c .before .before in
+    grow-taken (at .before .before .before .before .before .args .store) _ (at .grow .result) (at .grow .ensures) _ (not-false _ (c .if2 .left))
+
+stored : (c : tie.Else2) → let a = c .before .before .before .before .before .before .before .args in
+    c .before .before .grow .result .store ≡ grown (a .store) (needed base (graphFrom (a .graph .now)))
+stored c =
+    let at = c .before .before in
+    grow-store (at .before .before .before .before .before .args .store) _ (at .grow .result) (at .grow .ensures) (not-false _ (c .if2 .left))
+
+word-requires : tie.Need-word-requires
+word-requires c κs =
+    let l = taken-long _ (c .before .before .pre) in omega arith
+
+mul-if1 : tie.Need-mul-if1
+mul-if1 c = search needs
+
+returns : tie.Need-returns
+returns c =
+    let a = c .before .before .before .before .args in
+    sym (plan-short (graphFrom (a .graph .now)) (a .plan .now) (a .store) (omega (arith, size-is (a .graph .now) _ (c .before .word .ensures .0))))
+
+grow-requires : tie.Need-grow-requires
+grow-requires c κs = search needs
+
+returns-2 : tie.Need-returns-2
+returns-2 c =
+    let at = c .before .before in
+    let a = at .before .before .before .before .before .args in
+    sym (plan-full (graphFrom (a .graph .now)) (a .plan .now) (a .store) (long (at .before)) (grow-taken (a .store) _ (at .grow .result) (at .grow .ensures) _ (not-true _ (c .if2 .taken))))
+
+returns-3 : tie.Need-returns-3
+returns-3 c =
+    let at = c .before .before in
+    let a = at .before .before .before .before .before .before .before .args in
+    sym (plan-lacks (graphFrom (a .graph .now)) (a .plan .now) (a .store) (long (at .before .before .before)) (took at) _ (stored at) (c .if3 .taken))
+
+agrees-requires : tie.Need-agrees-requires
+agrees-requires c κs =
+    let at = c .before .before .before .before in
+    let start = at .before .before .before .before .before .before .before in
+    let size : length (start .args .store .tables) ≡ 2048 = search needs in
+    (start .pre, (long (at .before .before .before), (count-few (start .args .store) _ (took at), size)))
+
+returns-4 : tie.Need-returns-4
+returns-4 c =
+    let at = c .before .before .before .before .before .before in
+    let a = at .before .before .before .before .before .before .before .args in
+    sym (plan-differs (graphFrom (a .graph .now)) (a .plan .now) (a .store) (long (at .before .before .before)) (took at) _ (stored at) (sym (c .before .agrees .ensures) ∙ not-true _ (c .if4 .taken)))
+
+returns-5 : tie.Need-returns-5
+returns-5 c =
+    let same = c .before .before .before .before in
+    let at = same .before .before in
+    let a = at .before .before .before .before .before .before .before .args in
+    sym (plan-taken (graphFrom (a .graph .now)) (a .plan .now) (a .store) (long (at .before .before .before)) (took at) _ (stored at) (same .if3 .left) (sym (c .before .agrees .ensures) ∙ not-false _ (c .if4 .left)))
+
+pub refusal-spec : {M : Type 1} → statement M
+refusal-spec =
+    tie.close
+    (tie.spec
+    word-requires
+    mul-if1
+    returns
+    grow-requires
+    returns-2
+    returns-3
+    agrees-requires
+    returns-4
+    returns-5)
