@@ -1,5 +1,5 @@
 -- What planning answers, once its refusals are decided. Assumes nothing.
-use mathlib.Core.Path.{_≡_, refl, sym, ap, subst, _∙_}
+use mathlib.Core.Path.{_≡_, sym, ap, _∙_}
 use mathlib.Core.Bool.{Bool, true, false, cond}
 use mathlib.Core.List.{List, _++_}
 use Prim.Native.Nat.{ℕ, _+_, _-_, _*_, _≤_, _<_}
@@ -20,7 +20,6 @@ use Rattle.plan_rules.proofs.RunIsWalk.{takes-few}
 use Rattle.choices.specs.declared.needs.Grown.{Grown}
 use Rattle.choices.specs.Needs.{grownBy}
 use Rattle.plans.specs.declared.plan.PlanAnswer.the-variants.{Planned}
-use Rattle.plans.specs.declared.plan.Planning.{Planning}
 use Rattle.plans.specs.Plan.{PlanCall, noPlan, planCall}
 
 -- the words that a plan needs, by the number of states that is read

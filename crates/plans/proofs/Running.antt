@@ -1,15 +1,15 @@
 -- Which plan words a run takes, and what it answers then. Assumes nothing.
-use mathlib.Core.Path.{_≡_, refl, sym, ap, subst, _∙_}
-use mathlib.Core.Bool.{Bool, true, false, _&&_, _||_}
+use mathlib.Core.Path.{_≡_, sym, ap, _∙_}
+use mathlib.Core.Bool.{Bool, true, false, _&&_}
 use mathlib.Core.List.{List}
 use mathlib.Core.Option.{none}
-use mathlib.Core.Logic.{inl, inr, ⊎-elim}
+use mathlib.Core.Logic.{⊎-elim}
 use Prim.Native.Nat.{ℕ, _+_, _≤_, _<_}
 use native.Mathlib.Omega.{arith}
 use borrow.Author.Tests.{lt-ltb, le-ltb, le-leb, ltb-true, ltb-false, leb-true, eq-eqb, ne-eqb}
 use lib.Dec.{eqb, leb, ltb}
 use lib.ListN.{length, take, drop}
-use Rattle.lists.specs.Lists.{allL, eqList}
+use Rattle.lists.specs.Lists.{eqList}
 use Rattle.lists.proofs.Bools.{Is, is, yes-is, no-is, and-both, and-intro, and-right-false, or-cases, or-left, or-right}
 use Rattle.lists.proofs.Elements.{eqb-sound, list-sound}
 use Rattle.rules.specs.Graph.{Graph, graphFrom, graphFits}

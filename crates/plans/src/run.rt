@@ -7,8 +7,8 @@ ghost use Rattle.plans.specs.Run.{planRefusal, runRefusal, runCall};
 use graph::read::Read;
 use mask_store::MaskStore;
 
-// Why the words are no plan of a graph that 12 takes, on this store: 14 or 15; or 0. A plan that is the one of its graph and store names no mask that
-// the store lacks exactly where the store needs no class more.
+// Why the words are no plan of a graph that 12 takes, on this store: 14 or 15; or 0. The plan of graph and store names no mask that the store lacks
+// exactly where the store lacks no class that the graph needs.
 pub(crate) fn refusal(graph: &[u16], plan: &[u16], store: MaskStore) -> u8
     requires { ⌜ graphFits (now graph) ≡ true ⌝ }
     ensures { λ r. ⌜ r ≡ planRefusal base (graphFrom (now (graph .entry))) (now (plan .entry)) store ⌝ }

@@ -10,10 +10,6 @@ use Rattle.plans.specs.List.{listFrom}
 use Rattle.plans.proofs.Filling.{Filling, filling-none, filling-more, left-full, left-ends, done-listed, done-buffer}
 use Rattle.plans.proofs.list.fill.Statement.{statement}
 use Rattle.plans.proofs.list.fill.Tie as tie
-use Rattle.plans.proofs.list.fill.Reads as reads
-use Rattle.plans.proofs.list.fill.Lts as lts
-use Rattle.plans.proofs.list.put_entry.Reads as put-entry-reads
-use Rattle.plans.proofs.scan.read_entry.Reads as read-entry-reads
 
 abbrev Inv-loop : tie.InvT-loop
 Inv-loop graph text from out₀ room n₀ at₀ out n at = (length out ≡ length out₀) × Filling (graphFrom graph) text from room out₀ out n at

@@ -6,9 +6,6 @@ use lib.ListN.{set, length-set}
 use borrow.Author.Needs.{needs}
 use Rattle.plans.proofs.list.put_entry.Statement.{statement}
 use Rattle.plans.proofs.list.put_entry.Tie as tie
-use Rattle.plans.proofs.list.put_entry.Reads as reads
-use Rattle.plans.proofs.list.put_entry.Lts as lts
-use Rattle.plans.proofs.list.leaf_word.Reads as leaf-word-reads
 
 mul-i : tie.Need-mul-i
 mul-i c = search needs

@@ -5,10 +5,6 @@ use Rattle.plans.proofs.ListAnswers.{both, list-unfit, list-past, list-
 use borrow.Author.Needs.{needs}
 use Rattle.plans.proofs.list.scan_list.Statement.{statement}
 use Rattle.plans.proofs.list.scan_list.Tie as tie
-use Rattle.plans.proofs.list.scan_list.Reads as reads
-use Rattle.plans.proofs.list.scan_list.Lts as lts
-use Rattle.plans.proofs.list.fill.Reads as fill-reads
-use Rattle.words.proofs.graph.fits.Reads as fits-reads
 
 fits-requires : tie.Need-fits-requires
 fits-requires c κs = search needs

@@ -1,5 +1,5 @@
 -- 12, 14 and 15 are answered before anything is written; then the words of what the store has grown to are those of the plan. Assumes nothing.
-use mathlib.Core.Path.{_≡_, sym, subst, _∙_}
+use mathlib.Core.Path.{_≡_, sym, _∙_}
 use mathlib.Core.Bool.{true}
 use Prim.Native.Nat.{_≤_, _<_}
 use native.Mathlib.Omega.{arith}
@@ -13,13 +13,6 @@ use Rattle.plans.proofs.Planning.{size-is, grow-taken, grow-store, plan
 use borrow.Author.Needs.{needs}
 use Rattle.plans.proofs.plan.plan_by_value.Statement.{statement}
 use Rattle.plans.proofs.plan.plan_by_value.Tie as tie
-use Rattle.plans.proofs.plan.plan_by_value.Reads as reads
-use Rattle.plans.proofs.plan.plan_by_value.Lts as lts
-use Rattle.choices.proofs.needs.grow.Reads as grow-reads
-use Rattle.choices.proofs.rows.write.Reads as write-reads
-use Rattle.plans.proofs.plan.refused.Reads as refused-reads
-use Rattle.words.proofs.graph.fits.Reads as fits-reads
-use Rattle.words.proofs.word.Reads as word-reads
 
 -- 12 takes the graph
 fitting : (c : tie.Else1) → graphFits (c .before .before .before .before .args .graph .now) ≡ true

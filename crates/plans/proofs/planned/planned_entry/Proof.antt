@@ -11,9 +11,6 @@ use Rattle.plans.proofs.PlannedScans.{run-reads}
 use borrow.Author.Needs.{needs}
 use Rattle.plans.proofs.planned.planned_entry.Statement.{statement}
 use Rattle.plans.proofs.planned.planned_entry.Tie as tie
-use Rattle.plans.proofs.planned.planned_entry.Reads as reads
-use Rattle.plans.proofs.planned.planned_entry.Lts as lts
-use Rattle.plans.proofs.scan.entry_by.Reads as entry-by-reads
 use Rattle.runner.proofs.run.run.Reads as run-reads
 
 -- what the run found is what the graph reads

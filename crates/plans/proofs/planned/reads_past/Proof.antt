@@ -4,8 +4,6 @@ use Rattle.plans.specs.Run.{past}
 use borrow.Author.Needs.{needs}
 use Rattle.plans.proofs.planned.reads_past.Statement.{statement}
 use Rattle.plans.proofs.planned.reads_past.Tie as tie
-use Rattle.plans.proofs.planned.reads_past.Reads as reads
-use Rattle.plans.proofs.planned.reads_past.Lts as lts
 
 enum-known-place : tie.Need-enum-known-place
 enum-known-place c = search needs

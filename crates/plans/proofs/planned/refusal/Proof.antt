@@ -7,11 +7,6 @@ use Rattle.plans.proofs.PlannedScans.{planned-unfit, planned-past, plan
 use borrow.Author.Needs.{needs}
 use Rattle.plans.proofs.planned.refusal.Statement.{statement}
 use Rattle.plans.proofs.planned.refusal.Tie as tie
-use Rattle.plans.proofs.planned.refusal.Reads as reads
-use Rattle.plans.proofs.planned.refusal.Lts as lts
-use Rattle.plans.proofs.planned.reads_past.Reads as reads-past-reads
-use Rattle.plans.proofs.run.refusal.Reads as refusal-reads
-use Rattle.words.proofs.graph.fits.Reads as fits-reads
 
 -- 12 takes the graph
 fitting : (c : tie.Else1) → graphFits (c .before .before .before .before .before .args .graph .now) ≡ true

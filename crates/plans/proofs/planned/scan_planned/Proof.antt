@@ -9,11 +9,6 @@ use Rattle.plans.proofs.Running.{plan-on, runs-alike}
 use Rattle.plans.proofs.PlannedScans.{past-at, Scannable, scannable, planned-refused, planned-over, planned-list}
 use Rattle.plans.proofs.planned.scan_planned.Statement.{statement}
 use Rattle.plans.proofs.planned.scan_planned.Tie as tie
-use Rattle.plans.proofs.planned.scan_planned.Reads as reads
-use Rattle.plans.proofs.planned.scan_planned.Lts as lts
-use Rattle.plans.proofs.planned.fill.Reads as fill-reads
-use Rattle.plans.proofs.planned.refusal.Reads as refusal-reads
-use Rattle.runner.proofs.prepare.prepare.Reads as prepare-reads
 
 -- nothing of 12, 14 and 15 holds
 ready : (c : tie.Else1) → let a = c .before .before .before .before .before .before .args in Scannable (a .graph .now) (a .plan .now) (a .store) (a .text .now) (a .scan)

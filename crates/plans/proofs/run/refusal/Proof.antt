@@ -14,11 +14,6 @@ use Rattle.plans.proofs.Running.{count-few, plan-short, plan-full, plan
 use borrow.Author.Needs.{needs}
 use Rattle.plans.proofs.run.refusal.Statement.{statement}
 use Rattle.plans.proofs.run.refusal.Tie as tie
-use Rattle.plans.proofs.run.refusal.Reads as reads
-use Rattle.plans.proofs.run.refusal.Lts as lts
-use Rattle.choices.proofs.needs.grow.Reads as grow-reads
-use Rattle.choices.proofs.rows.agrees.Reads as agrees-reads
-use Rattle.words.proofs.word.Reads as word-reads
 
 -- the plan's words are there
 long : (c : tie.Else1) → let a = c .before .before .before .before .args in planSize base (graphFrom (a .graph .now)) ≤ length (a .plan .now)

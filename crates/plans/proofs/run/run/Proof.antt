@@ -8,12 +8,6 @@ use mathlib.Core.Bool.{true}
 use borrow.Author.Needs.{needs}
 use Rattle.plans.proofs.run.run.Statement.{statement}
 use Rattle.plans.proofs.run.run.Tie as tie
-use Rattle.plans.proofs.run.run.Reads as reads
-use Rattle.plans.proofs.run.run.Lts as lts
-use Rattle.graph.proofs.read.answer.Reads as answer-reads
-use Rattle.plans.proofs.run.run_refusal.Reads as run-refusal-reads
-use Rattle.runner.proofs.prepare.prepare.Reads as prepare-reads
-use Rattle.runner.proofs.run.run.Reads as run-reads
 
 -- nothing is refused
 ready : (c : tie.Else1) → let a = c .before .before .before .before .before .args in (graphFits (a .graph .now) ≡ true) × Taken (graphFrom (a .graph .now)) (a .plan .now) (a .store)

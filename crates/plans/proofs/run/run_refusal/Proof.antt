@@ -5,10 +5,6 @@ use Rattle.plans.proofs.Running.{run-unfit, run-fits}
 use borrow.Author.Needs.{needs}
 use Rattle.plans.proofs.run.run_refusal.Statement.{statement}
 use Rattle.plans.proofs.run.run_refusal.Tie as tie
-use Rattle.plans.proofs.run.run_refusal.Reads as reads
-use Rattle.plans.proofs.run.run_refusal.Lts as lts
-use Rattle.plans.proofs.run.refusal.Reads as refusal-reads
-use Rattle.words.proofs.graph.fits.Reads as fits-reads
 
 fits-requires : tie.Need-fits-requires
 fits-requires c κs = search needs

@@ -5,9 +5,6 @@ use Rattle.plans.proofs.Entries.{gives-none, gives-empty, gives-token}
 use borrow.Author.Needs.{needs}
 use Rattle.plans.proofs.scan.entry_by.Statement.{statement}
 use Rattle.plans.proofs.scan.entry_by.Tie as tie
-use Rattle.plans.proofs.scan.entry_by.Reads as reads
-use Rattle.plans.proofs.scan.entry_by.Lts as lts
-use Rattle.plans.proofs.scan.gap.Reads as gap-reads
 
 gap-requires : tie.Need-gap-requires
 gap-requires c κs = search needs

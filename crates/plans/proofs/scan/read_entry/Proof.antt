@@ -10,10 +10,6 @@ use Rattle.plans.proofs.Entries.{part-is, token-within}
 use borrow.Author.Needs.{needs}
 use Rattle.plans.proofs.scan.read_entry.Statement.{statement}
 use Rattle.plans.proofs.scan.read_entry.Tie as tie
-use Rattle.plans.proofs.scan.read_entry.Reads as reads
-use Rattle.plans.proofs.scan.read_entry.Lts as lts
-use Rattle.graph.proofs.read.walk.Reads as walk-reads
-use Rattle.plans.proofs.scan.entry_by.Reads as entry-by-reads
 
 -- what the walk found
 walked : (c : tie.After-walk) → let st = c .before .before .before .before in
