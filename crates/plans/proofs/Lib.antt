@@ -9,3 +9,4 @@ pub mod PlannedScans
 pub mod StoreAfter
 pub mod Unrefused
 pub mod Demand3
+pub mod PlanValues
