@@ -1,6 +1,6 @@
 #!/usr/bin/env bash
 # Builds the oracle, holds its texts and scans of the data images against the ones beside them, and writes the stored lists of its answers
-# to the programs that replay them, or to oracle/lists. The seeds are fixed: the same bytes come out every time. DATA names the folder of the images.
+# to the programs that replay them. The seeds are fixed: the same bytes come out every time. DATA names the folder of the images.
 set -eu
 cd "$(dirname "$0")/.."
 DATA=${DATA:-../shared/data}
@@ -11,7 +11,6 @@ for image in "$DATA"/*.image; do
 done
 for name in classes priorities builds display readings plans; do
     list=crates/replay_$name/stdin
-    [ -d "crates/replay_$name" ] || list=oracle/lists/$name.bin
     target/oracle/oracle list "$name" "$DATA"/*.image >"$list"
     ls -l "$list"
 done

@@ -22,9 +22,8 @@ ROOT = os.path.dirname(os.path.dirname(os.path.abspath(__file__)))
 
 
 def path(name):
-    """Where a list stands: with the program that replays it, if there is one."""
-    program = os.path.join(ROOT, "crates", "replay_" + name)
-    return os.path.join(program, "stdin") if os.path.isdir(program) else os.path.join(ROOT, "oracle", "lists", name + ".bin")
+    """Where a list stands: with the program that replays it."""
+    return os.path.join(ROOT, "crates", "replay_" + name, "stdin")
 
 
 class Stored:

@@ -11,6 +11,7 @@ use logos_codegen::views::{Choices, Fork};
 
 mod cases;
 mod list;
+mod shapes;
 
 pub use cases::random_case;
 pub use list::list;

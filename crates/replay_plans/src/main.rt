@@ -11,7 +11,7 @@ use crate::counted::Counted;
 
 // There is room for the graph of 1,024 states and of one more, and for its plan. What has no room here differs.
 fn main() {
-    let mut space = [0u8; 262144];
+    let mut space = [0u8; 524288];
     let n = io::read_full(0, &mut space);
     let mut graph = [0u16; 265216];
     let mut plan = [0u16; 4096];

@@ -58,6 +58,19 @@ pub fn filled_store(random: &mut Random, graph: &[u16], count: usize) -> Store {
     Store { fill: random.byte(), count, classes }
 }
 
+/// A full store that holds the classes which a graph needs, but for some, in any places among others.
+pub fn full_store(random: &mut Random, graph: &[u16], lacking: usize) -> Store {
+    let empty = Store { fill: 0, classes: Vec::new(), count: 0 };
+    let needed = plan(graph, &empty, 3 * usize::from(graph[0])).unwrap_or_else(|_| panic!("a plan")).held;
+    let mut store = filled_store(random, graph, 64 + lacking - needed.len());
+    for class in needed.into_iter().skip(lacking) {
+        let at = random.below(store.classes.len() + 1);
+        store.classes.insert(at, class);
+    }
+    store.count = store.classes.len();
+    store
+}
+
 pub fn some_store(random: &mut Random, graph: &[u16]) -> Store {
     match random.below(10) {
         0 => illegal_store(random, graph),

@@ -1,6 +1,7 @@
 //! The stored list of plans and runs (docs/ORACLE.md, "plans.bin").
 
-use super::cases::{filled_store, illegal_store, legal_store, some_store};
+use super::cases::{filled_store, full_store, illegal_store, legal_store, some_store};
+use super::shapes::{all_around, forked, needing, wide};
 use super::{plan, run, Store};
 use crate::builds::built;
 use crate::classes::packed;
@@ -28,10 +29,12 @@ struct Attempt {
     text: Vec<u8>,
 }
 
-fn attempts(random: &mut Random, graph: &[u16], words: &[u16], texts: usize) -> Vec<Attempt> {
+/// Runs on the texts, and on some more.
+fn attempts(random: &mut Random, graph: &[u16], words: &[u16], texts: &[Vec<u8>]) -> Vec<Attempt> {
     let whole = words.len();
     let sound = |text: Vec<u8>| Attempt { after: true, length: whole, change: None, text };
-    let mut attempts = (0..texts).map(|at| sound(text_for_graph(random, graph, 8 * at))).collect::<Vec<_>>();
+    let mut attempts = texts.iter().cloned().map(sound).collect::<Vec<_>>();
+    attempts.extend((0..4).map(|at| sound(text_for_graph(random, graph, 8 * at))));
     attempts.push(Attempt { after: false, ..sound(text_for_graph(random, graph, 6)) });
     if whole > 0 {
         attempts.push(Attempt { length: whole - 1, ..sound(b"a".to_vec()) });
@@ -42,11 +45,26 @@ fn attempts(random: &mut Random, graph: &[u16], words: &[u16], texts: usize) -> 
     attempts
 }
 
-fn store_case(stored: &mut Stored, random: &mut Random, graph: &[u16], store: &Store, buffer: usize) {
+/// A graph, its store, the length of the plan buffer, and texts to run.
+struct Planning {
+    graph: Vec<u16>,
+    store: Store,
+    buffer: usize,
+    texts: Vec<Vec<u8>>,
+}
+
+impl Planning {
+    fn new(graph: Vec<u16>, store: Store, buffer: usize) -> Planning {
+        Planning { graph, store, buffer, texts: Vec::new() }
+    }
+}
+
+fn store_case(stored: &mut Stored, random: &mut Random, case: &Planning) {
+    let Planning { graph, store, buffer, texts } = case;
     stored.runs(graph);
     store_store(stored, store);
-    stored.word(buffer);
-    let planned = match plan(graph, store, buffer) {
+    stored.word(*buffer);
+    let planned = match plan(graph, store, *buffer) {
         Ok(planned) => planned,
         Err(number) => {
             stored.byte(usize::from(number));
@@ -61,7 +79,7 @@ fn store_case(stored: &mut Stored, random: &mut Random, graph: &[u16], store: &S
         stored.bytes(&packed(class));
     }
     let after = Store { fill: store.fill, count: planned.held.len(), classes: planned.held.clone() };
-    let attempts = attempts(random, graph, &planned.words, 4);
+    let attempts = attempts(random, graph, &planned.words, texts);
     stored.half(attempts.len());
     for Attempt { after: grown, length, change, text } in attempts {
         stored.byte(usize::from(grown));
@@ -83,41 +101,59 @@ fn store_case(stored: &mut Stored, random: &mut Random, graph: &[u16], store: &S
     }
 }
 
-/// A graph of one state for each of so many self masks, and no other edges: planning needs all of them.
-fn needing(masks: usize) -> Vec<u16> {
-    let mut graph = vec![masks as u16, 0];
-    for state in 0..masks {
-        graph.extend((0..256).map(|byte| if byte <= state { state as u16 } else { NONE }));
-        graph.extend([NONE, 255]);
+/// Graphs of a shape, on stores that suit it.
+fn shaped(images: &[(Vec<u16>, Vec<u8>)], cases: &mut Vec<Planning>) {
+    let mut random = Random::new(10);
+    let empty = Store { fill: 0x5A, classes: Vec::new(), count: 0 };
+    for (graph, texts) in all_around() {
+        let buffer = 3 * usize::from(graph[0]) + random.below(2);
+        let store = legal_store(&mut random, &graph, 3);
+        cases.push(Planning { graph, store, buffer, texts });
     }
-    graph
+    // 64 classes, and 65
+    for held in [0, 1] {
+        let graph = forked(32);
+        let store = filled_store(&mut random, &graph, held);
+        cases.push(Planning::new(graph, store, 96));
+    }
+    // a full store that holds all that is needed, and one that lacks a class
+    let built = images.iter().map(|(image, _)| built(image).graph);
+    let graphs = [needing(1), needing(64), forked(5), forked(32)].into_iter().chain(built).collect::<Vec<_>>();
+    for (graph, lacking) in graphs.iter().flat_map(|graph| [(graph, 0), (graph, 1)]) {
+        let store = full_store(&mut random, graph, lacking);
+        cases.push(Planning::new(graph.clone(), store, 3 * usize::from(graph[0])));
+    }
+    // the most states, and one more
+    for (states, buffer) in [(1024, 3072), (1024, 3071), (1025, 3075)] {
+        cases.push(Planning::new(wide(states), empty.clone(), buffer));
+    }
 }
 
 pub fn list(images: &[(Vec<u16>, Vec<u8>)]) -> Vec<u8> {
     let mut stored = Stored::default();
     let mut random = Random::new(9);
     let empty = Store { fill: 0, classes: Vec::new(), count: 0 };
-    let mut cases: Vec<(Vec<u16>, Store, usize)> = Vec::new();
+    let mut cases: Vec<Planning> = Vec::new();
     // a graph without states: 15 is judged too
     for store in [empty.clone(), illegal_store(&mut random, &[0, 0]), filled_store(&mut random, &[0, 0], 64)] {
-        cases.push((vec![0, 0], store, 0));
+        cases.push(Planning::new(vec![0, 0], store, 0));
     }
     for masks in [1, 8, 9, 63, 64, 65] {
-        cases.push((needing(masks), empty.clone(), 3 * masks));
+        cases.push(Planning::new(needing(masks), empty.clone(), 3 * masks));
     }
     for (held, masks) in [(60, 4), (60, 5), (64, 1), (64, 0), (63, 2)] {
         let graph = needing(masks);
         let store = filled_store(&mut random, &graph, held);
-        cases.push((graph, store, 3 * masks + 1));
+        cases.push(Planning::new(graph, store, 3 * masks + 1));
     }
     for buffer in 0..=3 {
-        cases.push((needing(1), empty.clone(), buffer));
+        cases.push(Planning::new(needing(1), empty.clone(), buffer));
     }
     for (image, _) in images {
         let graph = built(image).graph;
         let buffer = 3 * usize::from(graph[0]);
-        cases.push((graph.clone(), empty.clone(), buffer));
-        cases.push((graph.clone(), legal_store(&mut random, &graph, 10), buffer));
+        cases.push(Planning::new(graph.clone(), empty.clone(), buffer));
+        cases.push(Planning::new(graph.clone(), legal_store(&mut random, &graph, 10), buffer));
     }
     for round in 0..300 {
         let graph = loop {
@@ -129,11 +165,12 @@ pub fn list(images: &[(Vec<u16>, Vec<u8>)]) -> Vec<u8> {
         let graph = if round % 15 == 14 { damaged(&mut random, graph) } else { graph };
         let states = if graphs::legal(&graph) { usize::from(graph[0]) } else { 1 };
         let store = if round % 4 == 0 { some_store(&mut random, &graph) } else { legal_store(&mut random, &graph, round % 5) };
-        cases.push((graph, store, 3 * states + random.below(3)));
+        cases.push(Planning::new(graph, store, 3 * states + random.below(3)));
     }
+    shaped(images, &mut cases);
     stored.word(cases.len());
-    for (graph, store, buffer) in &cases {
-        store_case(&mut stored, &mut random, graph, store, *buffer);
+    for case in &cases {
+        store_case(&mut stored, &mut random, case);
     }
     stored.0
 }
