@@ -79,6 +79,7 @@ fn refused(
     graph: &[u16],
     before: MaskStore,
     plan: &[u16],
+    unseen: &mut [usize],
     out: &mut [usize],
 ) -> Counted {
     let runs_refused = crate::run::refused_alike(
@@ -87,6 +88,7 @@ fn refused(
         before,
         vectors::part(list, case.first, 2),
         case.refusal,
+        unseen,
         out,
     );
     crate::counted::case_noted(noted, case.refusal, case.end, same && runs_refused)
@@ -111,7 +113,17 @@ fn by_words(
     let after = crate::stores::grown(list, case);
     let same = crate::plan::alike(graph, sound, i, list, case, before, after, plan);
     if case.refusal != 0 {
-        return refused(list, noted, case, same, graph, before, plan, planned);
+        return refused(
+            list,
+            noted,
+            case,
+            same,
+            graph,
+            before,
+            plan,
+            walked,
+            planned,
+        );
     }
     let c = crate::counted::case_noted(noted, 0, case.end, same);
     crate::run::all(

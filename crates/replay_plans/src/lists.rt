@@ -15,16 +15,6 @@ fn fill(out: &mut [usize]) {
     }
 }
 
-fn as_found(out: &[usize]) -> bool {
-    let n = out.len();
-    for k in 0..n {
-        if out[k] != FOUND {
-            return false;
-        }
-    }
-    true
-}
-
 fn same_words(one: &[usize], other: &[usize]) -> bool {
     let n = one.len();
     if other.len() != n {
@@ -87,7 +77,7 @@ fn same_answer(one: ListAnswer, other: ListAnswer) -> bool {
     }
 }
 
-// Whether a call by the plan is refused by that number, and the scan and the buffer are as they were.
+// Whether a call by the plan is refused by that number, and the scan and the buffer are as they were: as one that no call has seen.
 fn refuses(
     scan: Scan,
     graph: &[u16],
@@ -95,12 +85,14 @@ fn refuses(
     store: MaskStore,
     text: &[u8],
     refusal: usize,
+    unseen: &mut [usize],
     out: &mut [usize],
 ) -> bool {
+    fill(unseen);
     fill(out);
     let l = plans::planned::scan_planned(scan, graph, plan, store, text, out);
     let answer = l.answer;
-    refused(answer, refusal) && same_scan(l.scan, scan) && as_found(out)
+    refused(answer, refusal) && same_scan(l.scan, scan) && same_words(unseen, out)
 }
 
 // A refusal of the run is one of every scan, and goes before 16; a scan past the text gets 14, unless 12 goes before it.
@@ -110,6 +102,7 @@ pub(crate) fn all_refuse(
     store: MaskStore,
     text: &[u8],
     refusal: usize,
+    unseen: &mut [usize],
     out: &mut [usize],
 ) -> bool {
     let past = Scan {
@@ -119,9 +112,9 @@ pub(crate) fn all_refuse(
         place: Place::Ended,
     };
     let early = if refusal == 12 { 12 } else { 14 };
-    let fresh_refused = refuses(Scan::new(), graph, plan, store, text, refusal, out);
-    let past_refused = refuses(past, graph, plan, store, text, early, out);
-    let over_refused = refuses(over, graph, plan, store, text, refusal, out);
+    let fresh_refused = refuses(Scan::new(), graph, plan, store, text, refusal, unseen, out);
+    let past_refused = refuses(past, graph, plan, store, text, early, unseen, out);
+    let over_refused = refuses(over, graph, plan, store, text, refusal, unseen, out);
     fresh_refused && past_refused && over_refused
 }
 
@@ -199,8 +192,8 @@ fn into_buffers(
     for k in 0..most {
         spot = turn(graph, plan, store, text, spot, walked, planned);
     }
-    let again = refuses(spot.scan, graph, plan, store, text, 16, planned);
-    let past_refused = refuses(past, graph, plan, store, text, 14, planned);
+    let again = refuses(spot.scan, graph, plan, store, text, 16, walked, planned);
+    let past_refused = refuses(past, graph, plan, store, text, 14, walked, planned);
     spot.same && has_ended(spot.scan) && again && past_refused
 }
 

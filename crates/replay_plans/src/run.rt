@@ -121,7 +121,7 @@ fn given_alike(
         at: end,
         refused: true,
         run: sound && just && more,
-        list: crate::lists::all_refuse(graph, plan, store, text, refusal, planned),
+        list: crate::lists::all_refuse(graph, plan, store, text, refusal, walked, planned),
     }
 }
 
@@ -241,8 +241,9 @@ pub(crate) fn refused_alike(
     store: MaskStore,
     text: &[u8],
     refusal: usize,
+    unseen: &mut [usize],
     out: &mut [usize],
 ) -> bool {
     refused(plans::run::run(graph, plan, store, text), refusal)
-        && crate::lists::all_refuse(graph, plan, store, text, refusal, out)
+        && crate::lists::all_refuse(graph, plan, store, text, refusal, unseen, out)
 }
