@@ -1,3 +1,4 @@
 pub mod ScanNumbers
 pub mod Blocks
 pub mod HeldStores
+pub mod HeldPlans

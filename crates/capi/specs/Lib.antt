@@ -1,4 +1,5 @@
 pub mod Lent
 pub mod Parts
+pub mod Plans
 pub mod Scans
 pub mod Stores

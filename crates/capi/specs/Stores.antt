@@ -6,6 +6,7 @@ use lib.Dec.{eqb}
 use lib.ListN.{length, getD, replicate}
 use Rattle.lists.specs.Lists.{tab}
 use Rattle.classes.specs.Classes.{Class}
+use Rattle.mask_store.specs.declared.MaskStore.{MaskStore}
 use Rattle.mask_store.specs.declared.Added.{Added}
 use Rattle.mask_store.specs.Masks.{storeOf, refusedWith, add, Rendered, render}
 use Rattle.capi.specs.Lent.{Put, put}
@@ -13,6 +14,10 @@ use Rattle.capi.specs.Lent.{Put, put}
 -- a block of another length is no store, and gets 15
 abbrev pub isStore : List ℕ → Bool
 isStore tables = eqb (length tables) 2048
+
+-- the store of a block; one that 15 refuses, since it counts over 64, for a block that is none
+unfoldable pub storeIn : List ℕ → ℕ → MaskStore
+storeIn tables count = cond (isStore tables) (storeOf tables count) (storeOf (replicate 2048 0) 65)
 
 -- ---- `add_test_to_lut`
 

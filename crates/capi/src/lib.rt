@@ -9,6 +9,7 @@ pub mod build;
 pub mod byte_class;
 pub mod lent;
 pub mod masks;
+pub mod plan;
 pub mod priorities;
 pub mod read;
 pub mod scan;

@@ -5,7 +5,7 @@ ghost use lib.ListN.{length};
 ghost use Rattle.lists.specs.Told.{Told};
 ghost use Rattle.mask_store.specs.Masks.{storeOf, addTold};
 ghost use Rattle.capi.specs.Lent.{flagsOf};
-ghost use Rattle.capi.specs.Stores.{addTo, flat, renderTo};
+ghost use Rattle.capi.specs.Stores.{storeIn, addTo, flat, renderTo};
 use mask_store::AddAnswer;
 use mask_store::MaskStore;
 
@@ -20,6 +20,19 @@ fn store_of(tables: &[u8], count: usize) -> MaskStore
         tables: held,
         count: count,
     }
+}
+
+// The store of a block; one that 15 refuses, since it counts over 64, for a block of another length.
+pub fn store_in(tables: &[u8], count: usize) -> MaskStore
+    ensures { λ r. ⌜ r ≡ storeIn (now (tables .entry)) count ⌝ }
+{
+    if tables.len() != 2048 {
+        return MaskStore {
+            tables: [0u8; 2048],
+            count: 65,
+        };
+    }
+    store_of(tables, count)
 }
 
 // The answer to an added class, stored.

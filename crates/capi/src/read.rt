@@ -3,6 +3,7 @@ ghost use mathlib.Core.Path.{_≡_};
 ghost use mathlib.Core.List.{[], _∷_};
 ghost use Rattle.lists.specs.Told.{Told};
 ghost use Rattle.graph.specs.Answers.{readTold, graphRead, tableRead};
+ghost use Rattle.capi.specs.Plans.{runIn};
 use graph::read::Read;
 
 // A reading, stored.
@@ -50,4 +51,22 @@ pub extern "C" fn balthwyr_read_table(
     ensures { λ r. ⌜ readTold (tableRead (now (table .entry)) (now (text .entry))) ≡ record { refusal = r; values = now (found .exit) ∷ now (leaf .exit) ∷ now (end .exit) ∷ [] } ⌝ }
 {
     store(graph::read_table::read_table(table, text), found, leaf, end)
+}
+
+// `run`: the reading of a text by graph words, plan words and a store.
+#[no_mangle]
+pub extern "C" fn balthwyr_run(
+    graph: &[u16],
+    plan: &[u16],
+    tables: &[u8],
+    count: usize,
+    text: &[u8],
+    found: &mut usize,
+    leaf: &mut usize,
+    end: &mut usize,
+) -> u8
+    ensures { λ r. ⌜ readTold (runIn (now (graph .entry)) (now (plan .entry)) (now (tables .entry)) count (now (text .entry))) ≡ record { refusal = r; values = now (found .exit) ∷ now (leaf .exit) ∷ now (end .exit) ∷ [] } ⌝ }
+{
+    let held = crate::masks::store_in(tables, count);
+    store(plans::run::run(graph, plan, held, text), found, leaf, end)
 }

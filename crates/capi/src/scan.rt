@@ -4,6 +4,7 @@ ghost use mathlib.Core.List.{[], _∷_};
 ghost use Rattle.lists.specs.Told.{Told};
 ghost use Rattle.plans.specs.Scan.{scanTold, next};
 ghost use Rattle.plans.specs.List.{listTold, scanList};
+ghost use Rattle.capi.specs.Plans.{listIn};
 ghost use Rattle.capi.specs.Scans.{scanOf, numberOf};
 use plans::list::ListAnswer;
 use plans::scan::Answer;
@@ -118,6 +119,29 @@ pub extern "C" fn balthwyr_scan_list(
     ensures { λ _. ⌜ now (out .exit) ≡ scanList (now (graph .entry)) (now (text .entry)) (scanOf (now (scan .entry))) (now (out .entry)) .buffer ⌝ }
 {
     let listed = plans::list::scan_list(scan_of(*scan), graph, text, out);
+    let answer = listed.answer;
+    *scan = number_of(listed.scan);
+    store_list(answer, entries)
+}
+
+// `scan_planned`: what `scan_list` answers, by a plan and a store.
+#[no_mangle]
+pub extern "C" fn balthwyr_scan_planned(
+    graph: &[u16],
+    plan: &[u16],
+    tables: &[u8],
+    count: usize,
+    text: &[u8],
+    scan: &mut usize,
+    out: &mut [usize],
+    entries: &mut usize,
+) -> u8
+    ensures { λ r. ⌜ listTold (listIn (now (graph .entry)) (now (plan .entry)) (now (tables .entry)) count (now (text .entry)) (scanOf (now (scan .entry))) (now (out .entry)) .listed .answer) ≡ record { refusal = r; values = now (entries .exit) ∷ [] } ⌝ }
+    ensures { λ _. ⌜ now (scan .exit) ≡ numberOf (listIn (now (graph .entry)) (now (plan .entry)) (now (tables .entry)) count (now (text .entry)) (scanOf (now (scan .entry))) (now (out .entry)) .listed .scan) ⌝ }
+    ensures { λ _. ⌜ now (out .exit) ≡ listIn (now (graph .entry)) (now (plan .entry)) (now (tables .entry)) count (now (text .entry)) (scanOf (now (scan .entry))) (now (out .entry)) .buffer ⌝ }
+{
+    let held = crate::masks::store_in(tables, count);
+    let listed = plans::planned::scan_planned(scan_of(*scan), graph, plan, held, text, out);
     let answer = listed.answer;
     *scan = number_of(listed.scan);
     store_list(answer, entries)

@@ -1,0 +1,142 @@
+-- Planning, a run and a scan on a store in a caller's block: they are the calls on the block's store, or, where the block is none, on a store that counts
+-- 65, which 15 refuses after 12 and 14. Assumes nothing.
+use mathlib.Core.Path.{_≡_, refl, sym, ap, _∙_}
+use mathlib.Core.Bool.{Bool, true, false}
+use mathlib.Core.List.{List}
+use Prim.Native.Nat.{ℕ, _+_, _≤_}
+use native.Mathlib.Omega.{arith}
+use borrow.Author.Tests.{eq-eqb, ne-eqb, leb-true}
+use lib.Dec.{eqb, leb, ltb}
+use lib.ListN.{length, drop, replicate, length-drop}
+use Rattle.lists.proofs.Bools.{Is, yes-is, no-is, is, and-both}
+use Rattle.rules.specs.Graph.{graphFrom, graphFits}
+use Rattle.graph.specs.declared.read.Read.{Read}
+use Rattle.graph.specs.declared.read.Read.the-variants.{Refused}
+use Rattle.classes.specs.Classes.{Class}
+use Rattle.mask_store.specs.declared.MaskStore.{MaskStore}
+use Rattle.mask_store.specs.Masks.{storeOf, held, heldWith, grown, allowed, takes}
+use Rattle.mask_store.proofs.Growth.{length-all}
+use Rattle.plan_rules.specs.Plan.{base, needs, planSize}
+use Rattle.plans.specs.declared.scan.Scan.{Scan}
+use Rattle.plans.specs.List.{ScanList, noList}
+use Rattle.plans.specs.Plan.{PlanCall, noPlan, planCall}
+use Rattle.plans.specs.Run.{planRefusal, runRefusal, runCall, past, plannedRefusal, plannedList}
+use Rattle.capi.specs.Stores.{isStore, storeIn}
+use Rattle.capi.specs.Plans.{noStore, noStoreScan, planIn, runIn, listIn}
+
+-- ---- the store that planning leaves
+
+grown-size : (s : MaskStore) (cs : List Class) → length (s .tables) ≡ 2048 → takes s cs ≡ true → length (grown s cs .tables) ≡ 2048
+unfolding takes allowed grown
+grown-size s cs e t =
+    let few = and-both (allowed s) _ t in
+    let counted : s .count ≤ 64 = leb-true _ _ (and-both (leb (s .count) 64) _ (few .0) .0) in
+    let room : length (heldWith s cs) ≤ 64 = leb-true _ _ (few .1) in
+    let rest = length-drop (s .count) (heldWith s cs) in
+    length-all (s .tables) (s .count) (drop (s .count) (heldWith s cs)) e (omega arith)
+
+plan-size : (graph plan : List ℕ) (s : MaskStore) → length (s .tables) ≡ 2048 → length (planCall base graph plan s .planning .store .tables) ≡ 2048
+unfolding planCall
+plan-size graph plan s e = go (is (graphFits graph)) (is (ltb (length plan) (planSize base (graphFrom graph)))) (is (takes s (needs base (graphFrom graph))))
+  where
+    go : Is (graphFits graph) → Is (ltb (length plan) (planSize base (graphFrom graph))) → Is (takes s (needs base (graphFrom graph)))
+        → length (planCall base graph plan s .planning .store .tables) ≡ 2048
+    go (no-is f) p t = rw f e
+    go (yes-is f) (yes-is p) t = rw (f, p) e
+    go (yes-is f) (no-is p) (no-is t) = rw (f, p, t) e
+    go (yes-is f) (no-is p) (yes-is t) = rw (f, p, t) (grown-size s (needs base (graphFrom graph)) e t)
+
+-- ---- the store that stands for a block that is none
+
+abbrev none : MaskStore
+none = storeOf (replicate 2048 0) 65
+
+none-takes : (cs : List Class) → takes none cs ≡ false
+unfolding takes allowed
+none-takes cs = refl
+
+module _ (graph plan : List ℕ) where
+  abbrev short : Bool
+  short = ltb (length plan) (planSize base (graphFrom graph))
+
+  none-plan : planCall base graph plan none ≡ noPlan (noStore graph plan) plan none
+  unfolding planCall noStore
+  none-plan = go (is (graphFits graph)) (is short)
+    where
+      go : Is (graphFits graph) → Is short → planCall base graph plan none ≡ noPlan (noStore graph plan) plan none
+      go (no-is f) s = rw f
+      go (yes-is f) (yes-is s) = rw (f, s)
+      go (yes-is f) (no-is s) = rw (f, s, none-takes (needs base (graphFrom graph)))
+
+  none-refused : runRefusal base graph plan none ≡ noStore graph plan
+  unfolding runRefusal planRefusal noStore
+  none-refused = rw (none-takes (needs base (graphFrom graph)))
+
+  refuses : eqb (noStore graph plan) 0 ≡ false
+  unfolding noStore
+  refuses = go (is (graphFits graph)) (is short)
+    where
+      go : Is (graphFits graph) → Is short → eqb (noStore graph plan) 0 ≡ false
+      go (no-is f) s = rw f
+      go (yes-is f) (yes-is s) = rw (f, s)
+      go (yes-is f) (no-is s) = rw (f, s)
+
+  none-run : (text : List ℕ) → runCall base graph plan none text ≡ Refused (noStore graph plan)
+  unfolding runCall
+  none-run text = rw (none-refused, refuses, runCall) (ap {B = Read} Refused none-refused)
+
+  module _ (text : List ℕ) (scan : Scan) where
+    none-refused-scan : plannedRefusal base graph plan none text scan ≡ noStoreScan graph plan text scan
+    unfolding plannedRefusal planRefusal noStoreScan
+    none-refused-scan = rw (none-takes (needs base (graphFrom graph)))
+
+    refuses-scan : eqb (noStoreScan graph plan text scan) 0 ≡ false
+    unfolding noStoreScan
+    refuses-scan = go (is (graphFits graph)) (is (past text (scan .place))) (is short)
+      where
+        go : Is (graphFits graph) → Is (past text (scan .place)) → Is short → eqb (noStoreScan graph plan text scan) 0 ≡ false
+        go (no-is f) p s = rw f
+        go (yes-is f) (yes-is p) s = rw (f, p)
+        go (yes-is f) (no-is p) (yes-is s) = rw (f, p, s)
+        go (yes-is f) (no-is p) (no-is s) = rw (f, p, s)
+
+    none-list : (buffer : List ℕ) → plannedList base graph plan none text scan buffer ≡ noList (noStoreScan graph plan text scan) scan buffer
+    unfolding plannedList
+    none-list buffer = rw (none-refused-scan, refuses-scan, plannedList) (ap {B = ScanList} (λ (n : ℕ). noList n scan buffer) none-refused-scan)
+
+-- ---- a call on a block is the call on its store
+
+module _ (graph plan tables : List ℕ) (count : ℕ) where
+  pub run-in : (text : List ℕ) → runIn graph plan tables count text ≡ runCall base graph plan (storeIn tables count) text
+  unfolding runIn storeIn
+  run-in text = go (is (isStore tables))
+    where
+      go : Is (isStore tables) → runIn graph plan tables count text ≡ runCall base graph plan (storeIn tables count) text
+      go (yes-is q) = rw q
+      go (no-is q) = rw q (sym (none-run graph plan text))
+
+  pub list-in : (text : List ℕ) (scan : Scan) (buffer : List ℕ)
+      → listIn graph plan tables count text scan buffer ≡ plannedList base graph plan (storeIn tables count) text scan buffer
+  unfolding listIn storeIn
+  list-in text scan buffer = go (is (isStore tables))
+    where
+      go : Is (isStore tables) → listIn graph plan tables count text scan buffer ≡ plannedList base graph plan (storeIn tables count) text scan buffer
+      go (yes-is q) = rw q
+      go (no-is q) = rw q (sym (none-list graph plan text scan buffer))
+
+  -- ---- `plan`: where the block is none, it is left with its count
+
+  pub plan-in : length tables ≡ 2048 → planIn graph plan tables count ≡ planCall base graph plan (storeIn tables count)
+  unfolding planIn storeIn
+  plan-in e = rw (eq-eqb (length tables) 2048 e)
+
+  pub plan-in-none : (length tables ≡ 2048 → ⊥)
+      → planIn graph plan tables count
+      ≡ record { planning = record { answer = planCall base graph plan (storeIn tables count) .planning .answer; store = storeOf tables count }; buffer = planCall base graph plan (storeIn tables count) .buffer }
+  unfolding planIn storeIn
+  plan-in-none n = rw (ne-eqb (length tables) 2048 n, none-plan graph plan)
+
+  -- the tables of a store keep their length
+  pub plan-in-size : length tables ≡ 2048 → length (planCall base graph plan (storeIn tables count) .planning .store .tables) ≡ 2048
+  unfolding storeIn
+  plan-in-size e = rw (eq-eqb (length tables) 2048 e) (plan-size graph plan (storeOf tables count) e)
