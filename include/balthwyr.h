@@ -140,6 +140,33 @@ uint8_t balthwyr_add_test_to_lut(uint8_t *tables, size_t tables_len, size_t *cou
 /* The eight tables, unused bits 0, to the first BALTHWYR_TABLES bytes of `luts`; the rest is as found. Refusals: 15, BALTHWYR_SHORT. */
 uint8_t balthwyr_render_luts(const uint8_t *tables, size_t tables_len, size_t count, uint8_t *luts, size_t luts_len);
 
+/* ---- Plans
+ *
+ * The plan of a graph says how the bytes of each state's edges are tested: three words a state, the self mask + 1 or 0, and for up to two edges, in
+ * the order of their targets, 0 (absent or self), 1 (comparisons) or 2 + mask number; or BALTHWYR_TABLE in both for a table. Its masks are held by
+ * a mask store, `tables` and count as above. */
+
+#define BALTHWYR_TABLE ((uint16_t)65535)
+
+/* The plan of graph words, three words a state, to the front of `plan`, the words after it as found. The store gains the classes that the plan
+ * needs and it lacks: *added is their number, and *count becomes greater by it. Refusals: 12; 14 for a plan buffer below three words a state; 15,
+ * also for a block that is no store. */
+uint8_t balthwyr_plan(const uint16_t *graph, size_t graph_len, uint16_t *plan, size_t plan_len, uint8_t *tables,
+                      size_t tables_len, size_t *count, size_t *added);
+
+/* The reading of a text by graph words, their plan and a store that holds its masks: what `balthwyr_read_graph` answers. Refusals: 12; 14 for plan
+ * words below three a state; 15, also for a block that is no store; 14 for words that are not the plan of this graph on this store, or name a mask
+ * that the store does not hold. Graph, store and plan are checked at every call. */
+uint8_t balthwyr_run(const uint16_t *graph, size_t graph_len, const uint16_t *plan, size_t plan_len, const uint8_t *tables,
+                     size_t tables_len, size_t count, const uint8_t *text, size_t text_len, size_t *found, size_t *leaf,
+                     size_t *end);
+
+/* What `balthwyr_scan_list` answers, by such a plan and store, which are checked once for the whole list. Refusals: 12; 14 for a scan offset past
+ * the text, then as `balthwyr_run`; last 16. */
+uint8_t balthwyr_scan_planned(const uint16_t *graph, size_t graph_len, const uint16_t *plan, size_t plan_len,
+                              const uint8_t *tables, size_t tables_len, size_t count, const uint8_t *text, size_t text_len,
+                              size_t *scan, size_t *out, size_t out_len, size_t *entries);
+
 /* ---- Patterns
  *
  * A tree is an array of words, six a record, with the bytes of its literals beside it. */

@@ -24,12 +24,15 @@ shift
 [ $# -gt 0 ] || set -- $("$OUT/bench" names)
 for name in "$@"; do
     case $name in
-        read-*) call=read_graph rust='bench::loops::read_graph*' ;;
-        scan-*) call=scan_list rust='bench::loops::scan_list*' ;;
-        next-*) call=scan_next rust='bench::loops::scan_next*' ;;
-        build-*) call=build rust='logos_codegen::graph::Graph::new*' ;;
+        read-*) call=balthwyr_read_graph rust='bench::loops::read_graph*' ;;
+        scan-*) call=balthwyr_scan_list rust='bench::loops::scan_list*' ;;
+        planned-*) call=balthwyr_scan_planned rust='bench::planned::scan_planned*' ;;
+        gain-*) call=balthwyr_scan_planned rust=balthwyr_scan_list ;;
+        loops-*) call='bench::planned::scan_planned*' rust='bench::loops::scan_list*' ;;
+        next-*) call=balthwyr_scan_next rust='bench::loops::scan_next*' ;;
+        build-*) call=balthwyr_build rust='logos_codegen::graph::Graph::new*' ;;
     esac
-    ours=$(instructions ours "$name" "balthwyr_$call")
+    ours=$(instructions ours "$name" "$call")
     rust=$(instructions rust "$name" "$rust")
     echo "$name $ours $rust $(awk "BEGIN { printf \"%.3f\", $rust / $ours }")"
 done

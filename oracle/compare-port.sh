@@ -10,9 +10,9 @@ OUT=target/oracle
 CC=(cc -std=c11 -O2 -Wall -Wextra -Werror -Iinclude)
 rt staticlib capi >/dev/null
 oracle/build.sh
-"${CC[@]}" -o $OUT/port oracle/port/{port,builds,readings,clean,classes,lent,lines}.c target/staticlib/libcapi.a
+"${CC[@]}" -o $OUT/port oracle/port/{port,builds,readings,clean,classes,plans,lent,lines}.c target/staticlib/libcapi.a
 "${CC[@]}" -o $OUT/build examples/build.c target/staticlib/libcapi.a
-for name in builds display readings classes priorities; do
+for name in builds display readings classes priorities plans; do
     oracle/compare.py $name "$SEED" "$COUNT" $OUT/port
 done
 for image in "$DATA"/*.image; do

@@ -20,6 +20,8 @@ static const struct {
     {"classes", "class", answer_class},
     {"classes", "store", answer_store},
     {"priorities", "tree", answer_tree},
+    {"plans", "plan", answer_plan},
+    {"plans", "run", answer_run},
 };
 
 static answer *answer_to(const char *name, const char *kind) {

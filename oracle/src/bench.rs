@@ -14,6 +14,8 @@ mod loops;
 mod original;
 #[path = "bench/pairs.rs"]
 mod pairs;
+#[path = "bench/planned.rs"]
+mod planned;
 mod random;
 mod tables;
 #[path = "bench/tables.rs"]
@@ -24,21 +26,38 @@ mod walks;
 mod words;
 
 use clock::{measure, Clock, Pair};
-use pairs::{Build, Read, Scan};
+use pairs::{Build, Read, Scan, Way};
 use random::Random;
 
 const USAGE: &str = "bench time ROUNDS [NAME..]     the ratios
 bench once ours|rust NAME      one run of one side, on a short text
 bench names                    the names";
 
-const NAMES: [&str; 11] = [
+const NAMES: &[&str] = &[
     "read-short",
     "read-long",
     "read-string",
     "scan-short",
+    "scan-encoder",
+    "scan-json",
     "scan-long",
     "scan-string",
     "next-short",
+    "planned-short",
+    "planned-encoder",
+    "planned-json",
+    "planned-long",
+    "planned-string",
+    "gain-short",
+    "gain-encoder",
+    "gain-json",
+    "gain-long",
+    "gain-string",
+    "loops-short",
+    "loops-encoder",
+    "loops-json",
+    "loops-long",
+    "loops-string",
     "build-dense-126",
     "build-dense-1024",
     "build-ladder-1024",
@@ -56,6 +75,19 @@ fn text(kind: &str, size: usize) -> Option<Vec<u8>> {
     })
 }
 
+/// Graph words, and a text for them of so many bytes or a few more: those of an image of the data, its sample again and again, or the lexer's.
+fn lexed(kind: &str, size: usize) -> Option<(Vec<u16>, Vec<u8>)> {
+    let name = match kind {
+        "encoder" => "encoder-lines",
+        "json" => "json",
+        _ => return Some((texts::lexer(), text(kind, size)?)),
+    };
+    let folder = std::env::var("DATA").unwrap_or("../shared/data".to_string());
+    let file = |end: &str| std::fs::read(format!("{folder}/{name}.{end}")).expect("a file of the data");
+    let sample = file("sample");
+    Some((calls::graph_of_image(&file("image")), sample.repeat(size.div_ceil(sample.len()))))
+}
+
 /// A table of a shape and a number of states, as `ladder-512`.
 fn table(kind: &str) -> Option<Vec<u16>> {
     let (shape, states) = kind.rsplit_once('-')?;
@@ -71,13 +103,18 @@ fn table(kind: &str) -> Option<Vec<u16>> {
 /// The task of a name, and how many bytes it reads. A text has so many, a hundredth of them where each entry is a call.
 fn pair(name: &str, size: usize) -> Option<(Box<dyn Pair>, usize)> {
     let (task, kind) = name.split_once('-')?;
-    Some(match task {
-        "read" => (Box::new(Read::new(texts::joined(), text(kind, size)?)), size),
-        "scan" => (Box::new(Scan::new(texts::lexer(), text(kind, size)?, false)), size),
-        "next" => (Box::new(Scan::new(texts::lexer(), text(kind, size / 100)?, true)), size / 100),
-        "build" => (Box::new(Build::new(table(kind)?)), 0),
+    let (ways, size) = match task {
+        "read" => return Some((Box::new(Read::new(texts::joined(), text(kind, size)?)), size)),
+        "build" => return Some((Box::new(Build::new(table(kind)?)), 0)),
+        "next" => ([Way::OurNext, Way::RustNext], size / 100),
+        "scan" => ([Way::OurWalk, Way::RustWalk], size),
+        "planned" => ([Way::OurPlan, Way::RustPlan], size),
+        "gain" => ([Way::OurPlan, Way::OurWalk], size),
+        "loops" => ([Way::RustPlan, Way::RustWalk], size),
         _ => return None,
-    })
+    };
+    let (graph, text) = lexed(kind, size)?;
+    Some((Box::new(Scan::new(graph, text, ways)), size))
 }
 
 /// The ratios of the named tasks.
@@ -110,7 +147,7 @@ fn main() {
     let args = std::env::args().skip(1).collect::<Vec<_>>();
     let args = args.iter().map(String::as_str).collect::<Vec<_>>();
     let done = match args[..] {
-        ["time", rounds] => time(form::number(rounds), &NAMES),
+        ["time", rounds] => time(form::number(rounds), NAMES),
         ["time", rounds, ref names @ ..] => time(form::number(rounds), names),
         ["once", side, name] => once(side, name),
         ["names"] => Some(println!("{}", NAMES.join("\n"))),

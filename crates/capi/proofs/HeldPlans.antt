@@ -19,7 +19,7 @@ use Rattle.mask_store.proofs.Growth.{length-all}
 use Rattle.plan_rules.specs.Plan.{base, needs, planSize}
 use Rattle.plans.specs.declared.scan.Scan.{Scan}
 use Rattle.plans.specs.List.{ScanList, noList}
-use Rattle.plans.specs.Plan.{PlanCall, noPlan, planCall}
+use Rattle.plans.specs.Plan.{PlanCall, planTold, noPlan, planCall}
 use Rattle.plans.specs.Run.{planRefusal, runRefusal, runCall, past, plannedRefusal, plannedList}
 use Rattle.capi.specs.Stores.{isStore, storeIn}
 use Rattle.capi.specs.Plans.{noStore, noStoreScan, planIn, runIn, listIn}
@@ -140,3 +140,27 @@ module _ (graph plan tables : List ℕ) (count : ℕ) where
   pub plan-in-size : length tables ≡ 2048 → length (planCall base graph plan (storeIn tables count) .planning .store .tables) ≡ 2048
   unfolding storeIn
   plan-in-size e = rw (eq-eqb (length tables) 2048 e) (plan-size graph plan (storeOf tables count) e)
+
+-- ---- a refusal leaves the plan buffer, the block and the count
+
+-- graph words, plan buffer, store; c is what a call of planning leaves
+abbrev Leaves : PlanCall → List ℕ → MaskStore → Type 0
+Leaves c plan s = (planTold (c .planning .answer) .refusal ≡ 0 → ⊥) → (c .buffer ≡ plan) × (c .planning .store ≡ s)
+
+call-leaves : (graph plan : List ℕ) (s : MaskStore) → Leaves (planCall base graph plan s) plan s
+unfolding planCall
+call-leaves graph plan s = go (is (graphFits graph)) (is (short graph plan)) (is (takes s (needs base (graphFrom graph))))
+  where
+    go : Is (graphFits graph) → Is (short graph plan) → Is (takes s (needs base (graphFrom graph))) → Leaves (planCall base graph plan s) plan s
+    go (no-is f) p t = rw f (λ r. (refl, refl))
+    go (yes-is f) (yes-is p) t = rw (f, p) (λ r. (refl, refl))
+    go (yes-is f) (no-is p) (no-is t) = rw (f, p, t) (λ r. (refl, refl))
+    go (yes-is f) (no-is p) (yes-is t) = rw (f, p, t) (λ r. absurd (r refl))
+
+pub plan-leaves : (graph plan tables : List ℕ) (count : ℕ) → Leaves (planIn graph plan tables count) plan (storeOf tables count)
+unfolding planIn
+plan-leaves graph plan tables count = go (is (isStore tables))
+  where
+    go : Is (isStore tables) → Leaves (planIn graph plan tables count) plan (storeOf tables count)
+    go (yes-is q) = rw q (call-leaves graph plan (storeOf tables count))
+    go (no-is q) = rw q (λ r. (refl, refl))

@@ -1,5 +1,5 @@
--- A scan's number tells the scan, and a call that refuses leaves it as found: each refusal of `next` and of `scan_list` hands back the scan that
--- came in, whose number is the one that came in. Assumes nothing.
+-- A scan's number tells the scan, and a call that refuses leaves it as found: each refusal of `next`, of `scan_list` and of `scan_planned` hands back
+-- the scan that came in, whose number is the one that came in. Assumes nothing.
 use mathlib.Core.Path.{_≡_, refl, sym, ap, _∙_}
 use mathlib.Core.List.{List}
 use Prim.Native.Nat.{ℕ, _/_, _<_}
@@ -18,8 +18,14 @@ use Rattle.plans.specs.declared.scan.Answer.the-variants.{Token, Gap, Ended as 
 use Rattle.plans.specs.declared.scan.Entry.{Entry}
 use Rattle.rules.specs.Read.{readGraph}
 use Rattle.plans.specs.Scan.{readingAt, hasEnded, scanTold, entryOf, scannedBy, scanFrom, scanAt, scanOf as scannedOf, next}
-use Rattle.plans.specs.List.{Listing, listFor, listTold, unlessRefused, scanList}
+use Rattle.mask_store.specs.declared.MaskStore.{MaskStore}
+use Rattle.plan_rules.specs.Plan.{base}
+use Rattle.plans.specs.List.{Listing, ScanList, listFor, listTold, unlessRefused, scanList}
+use Rattle.plans.specs.Run.{plannedRefusal, plannedList}
+use Rattle.capi.specs.Plans.{listIn}
 use Rattle.capi.specs.Scans.{ended, scanOf, numberOf}
+use Rattle.capi.specs.Stores.{storeIn}
+use Rattle.capi.proofs.HeldPlans.{list-in}
 
 -- ---- number to scan and back
 
@@ -89,6 +95,15 @@ list-keeps graph text buffer s refused = go (is (graphFits graph))
     go (yes-is q) = rw (q, scanList) (told (scannedOf (graphFrom graph) text s .answer) (listFor (graphFrom graph) text (length buffer / 3) s) (rw (q, scanList) at refused))
     go (no-is q) = rw (q, scanList)
 
+planned-keeps : (graph plan text buffer : List ℕ) (store : MaskStore) (s : Scan)
+    → Refuses (listTold (plannedList base graph plan store text s buffer .listed .answer)) → plannedList base graph plan store text s buffer .listed .scan ≡ s
+unfolding plannedList
+planned-keeps graph plan text buffer store s refused = go (is (eqb (plannedRefusal base graph plan store text s) 0))
+  where
+    go : Is (eqb (plannedRefusal base graph plan store text s) 0) → plannedList base graph plan store text s buffer .listed .scan ≡ s
+    go (yes-is q) = rw (q, plannedList) (list-keeps graph text buffer s (rw (q, plannedList) at refused))
+    go (no-is q) = rw (q, plannedList)
+
 -- ---- and so its number
 
 pub next-leaves : (graph text : List ℕ) (n : ℕ) → Refuses (scanTold (next graph text (scanOf n) .answer)) → numberOf (next graph text (scanOf n) .scan) ≡ n
@@ -97,3 +112,11 @@ next-leaves graph text n refused = ap numberOf (next-keeps graph text (scanOf n)
 pub list-leaves : (graph text buffer : List ℕ) (n : ℕ) → Refuses (listTold (scanList graph text (scanOf n) buffer .listed .answer))
     → numberOf (scanList graph text (scanOf n) buffer .listed .scan) ≡ n
 list-leaves graph text buffer n refused = ap numberOf (list-keeps graph text buffer (scanOf n) refused) ∙ number-back n
+
+pub planned-leaves : (graph plan tables : List ℕ) (count : ℕ) (text buffer : List ℕ) (n : ℕ)
+    → Refuses (listTold (listIn graph plan tables count text (scanOf n) buffer .listed .answer)) → numberOf (listIn graph plan tables count text (scanOf n) buffer .listed .scan) ≡ n
+planned-leaves graph plan tables count text buffer n refused =
+    let e = list-in graph plan tables count text (scanOf n) buffer in
+    ap (λ (l : ScanList). numberOf (l .listed .scan)) e
+    ∙ ap numberOf (planned-keeps graph plan text buffer (storeIn tables count) (scanOf n) (λ z. refused (ap (λ (l : ScanList). listTold (l .listed .answer) .refusal) e ∙ z)))
+    ∙ number-back n

@@ -1,22 +1,22 @@
 //! The readings as Rust loops with unchecked indexing: the same steps as crates/graph/src/read.rt, crates/plans/src and crates/words/src/graph.rt take.
 //! Nothing but the check of the graph words keeps the indices inside.
 
-const NONE: usize = 65_535;
+pub const NONE: usize = 65_535;
 
-fn word(words: &[u16], at: usize) -> usize {
+pub fn word(words: &[u16], at: usize) -> usize {
     usize::from(unsafe { *words.get_unchecked(at) })
 }
 
-fn byte(text: &[u8], at: usize) -> usize {
+pub fn byte(text: &[u8], at: usize) -> usize {
     usize::from(unsafe { *text.get_unchecked(at) })
 }
 
-fn place(state: usize, column: usize) -> usize {
+pub fn place(state: usize, column: usize) -> usize {
     2 + 258 * state + column
 }
 
 /// Whether condition 12 takes the words.
-fn fits(graph: &[u16]) -> bool {
+pub fn fits(graph: &[u16]) -> bool {
     if graph.len() < 2 {
         return false;
     }
@@ -36,7 +36,7 @@ fn fits(graph: &[u16]) -> bool {
 }
 
 /// The record at a state with these marks, entered by so many byte steps.
-fn entered(marks: usize, taken: usize, last: Option<(usize, usize)>) -> Option<(usize, usize)> {
+pub fn entered(marks: usize, taken: usize, last: Option<(usize, usize)>) -> Option<(usize, usize)> {
     let (accept, early) = (marks % 256, marks / 256);
     if early != 255 {
         Some((early, taken))

@@ -1,6 +1,7 @@
 //! What is measured: a task for our call and for the Rust, with both answers.
 
 use super::clock::{Clock, Pair};
+use super::planned::{self, Store};
 use super::{calls, loops};
 use crate::builds::error_words;
 use crate::graphs::words_of_graph;
@@ -43,27 +44,43 @@ impl Pair for Read {
     }
 }
 
-/// The scan of a whole text into a list, by one call or by a call an entry.
+/// How a side scans a whole text: by a call an entry, by one call that walks the graph, by one call that runs its plan.
+#[derive(Clone, Copy)]
+pub enum Way {
+    OurNext,
+    RustNext,
+    OurWalk,
+    RustWalk,
+    OurPlan,
+    RustPlan,
+}
+
+/// The scan of a whole text into a list, in two ways.
 pub struct Scan {
     graph: Vec<u16>,
+    plan: Vec<u16>,
+    store: Store,
     text: Vec<u8>,
-    by_entry: bool,
+    ways: [Way; 2],
     ours: Entries,
     rust: Entries,
 }
 
 /// Three words an entry: start, end, and leaf, or 65,535 for a gap.
+#[derive(Default)]
 struct Entries {
     words: Vec<usize>,
     count: usize,
 }
 
 impl Scan {
-    /// There is room for as many entries as the text has, and one more, so that the scan ends.
-    pub fn new(graph: Vec<u16>, text: Vec<u8>, by_entry: bool) -> Scan {
+    /// There is room for as many entries as the text has, and one more, so that the scan ends. The plan is made on an empty store.
+    pub fn new(graph: Vec<u16>, text: Vec<u8>, ways: [Way; 2]) -> Scan {
         let room = 3 * (walks::scan(&graph, &text, 0).len() + 1);
         let entries = || Entries { words: vec![0; room], count: 0 };
-        Scan { ours: entries(), rust: entries(), graph, text, by_entry }
+        let mut store = Store { tables: [0; 2048], count: 0 };
+        let plan = calls::plan(&graph, &mut store);
+        Scan { ours: entries(), rust: entries(), graph, plan, store, text, ways }
     }
 
     /// Each entry by a call that says whether there was one.
@@ -74,27 +91,34 @@ impl Scan {
             entries.count += 1;
         }
     }
+
+    fn scan(&self, way: Way, clock: &mut Clock, entries: &mut Entries) {
+        let (graph, text, plan, store) = (black_box(&self.graph), black_box(&self.text), black_box(&self.plan), black_box(&self.store));
+        let (mut at, out) = (0, &mut entries.words);
+        entries.count = match way {
+            Way::OurNext => return clock.time(|| Scan::entries(|out| calls::scan_next(graph, text, &mut at, out), entries)),
+            Way::RustNext => {
+                return clock.time(|| Scan::entries(|out| loops::scan_next(graph, text, &mut at, out).expect("a graph"), entries))
+            }
+            Way::OurWalk => clock.time(|| calls::scan_list(graph, text, out)),
+            Way::RustWalk => clock.time(|| loops::scan_list(graph, text, 0, out)).expect("a graph").0,
+            Way::OurPlan => clock.time(|| calls::scan_planned(graph, plan, store, text, out)),
+            Way::RustPlan => clock.time(|| planned::scan_planned(graph, plan, store, text, 0, out)).expect("a plan").0,
+        }
+    }
 }
 
 impl Pair for Scan {
     fn ours(&mut self, clock: &mut Clock) {
-        let (graph, text) = (black_box(&self.graph), black_box(&self.text));
-        if self.by_entry {
-            let mut scan = 0;
-            clock.time(|| Scan::entries(|out| calls::scan_next(graph, text, &mut scan, out), &mut self.ours));
-        } else {
-            self.ours.count = clock.time(|| calls::scan_list(graph, text, &mut self.ours.words));
-        }
+        let mut entries = std::mem::take(&mut self.ours);
+        self.scan(self.ways[0], clock, &mut entries);
+        self.ours = entries;
     }
 
     fn rust(&mut self, clock: &mut Clock) {
-        let (graph, text) = (black_box(&self.graph), black_box(&self.text));
-        if self.by_entry {
-            let mut at = 0;
-            clock.time(|| Scan::entries(|out| loops::scan_next(graph, text, &mut at, out).expect("a graph"), &mut self.rust));
-        } else {
-            (self.rust.count, _) = clock.time(|| loops::scan_list(graph, text, 0, &mut self.rust.words)).expect("a graph");
-        }
+        let mut entries = std::mem::take(&mut self.rust);
+        self.scan(self.ways[1], clock, &mut entries);
+        self.rust = entries;
     }
 
     fn compare(&self) {

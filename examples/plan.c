@@ -1,0 +1,88 @@
+/* Plans the graph of a table's image on an empty mask store, and reads a text by the plan and by the walk of the graph: prints how many states, tables and
+ * masks the plan has, then a line for each reading, leaf and end or `none`, then a line for each token or gap of the scan by the plan, and whether the
+ * walk's are the same.
+ *
+ *   rt staticlib capi
+ *   gcc -Wall -Wextra -O2 -Iinclude examples/plan.c target/staticlib/libcapi.a -o plan
+ *   ./plan examples/json.image '{"a": [1.5, true]}'
+ *
+ * prints what stands in examples/json.planned.
+ */
+#include <stdio.h>
+#include <stdlib.h>
+#include <string.h>
+
+#include "balthwyr.h"
+
+/* An image has at most 65,536 bytes, so its table has at most 126 states: these rooms are enough for the words of every image. */
+enum { IMAGE = 65536, WORDS = 32768, STATES = 126, ROOM = 1024 };
+
+static uint8_t image[IMAGE + 1];
+static uint16_t graph[WORDS], errors[WORDS], plan[3 * STATES];
+static struct balthwyr_mask_store store;
+static size_t planned[3 * ROOM], walked[3 * ROOM];
+
+static void refused_if(uint8_t refusal)
+{
+    if (refusal) {
+        printf("refused %d\n", refusal);
+        exit(1);
+    }
+}
+
+static void print_reading(const char *by, size_t found, size_t leaf, size_t end)
+{
+    if (found) {
+        printf("by the %s: leaf %zu, end %zu\n", by, leaf, end);
+    } else {
+        printf("by the %s: none\n", by);
+    }
+}
+
+int main(int argc, char **argv)
+{
+    size_t states, root, count, words, added, found, leaf, end, entries, listed, tables = 0, scan = 0, walk = 0;
+
+    if (argc != 3) {
+        fprintf(stderr, "usage: plan IMAGE TEXT\n");
+        return 2;
+    }
+    FILE *file = fopen(argv[1], "rb");
+    if (!file) {
+        fprintf(stderr, "cannot read %s\n", argv[1]);
+        return 1;
+    }
+    size_t size = fread(image, 1, sizeof image, file);
+    fclose(file);
+    const uint8_t *text = (const uint8_t *)argv[2];
+    size_t length = strlen(argv[2]);
+
+    refused_if(balthwyr_build_image(image, size, graph, WORDS, errors, WORDS, &states, &root, &count, &words));
+    size_t graph_len = 2 + 258 * states;
+
+    /* the store grows in the call; it counts no class yet, so its bytes mean nothing */
+    store.count = 0;
+    refused_if(balthwyr_plan(graph, graph_len, plan, 3 * states, store.tables, sizeof store.tables, &store.count, &added));
+    for (size_t s = 0; s < states; s++) {
+        tables += plan[3 * s + 1] == BALTHWYR_TABLE;
+    }
+    printf("%zu states, %zu by tables, %zu masks\n", states, tables, added);
+
+    refused_if(balthwyr_run(graph, graph_len, plan, 3 * states, store.tables, sizeof store.tables, store.count, text, length, &found, &leaf, &end));
+    print_reading("plan", found, leaf, end);
+    refused_if(balthwyr_read_graph(graph, graph_len, text, length, &found, &leaf, &end));
+    print_reading("walk", found, leaf, end);
+
+    refused_if(balthwyr_scan_planned(graph, graph_len, plan, 3 * states, store.tables, sizeof store.tables, store.count, text, length, &scan, planned, 3 * ROOM, &entries));
+    for (const size_t *entry = planned; entry < planned + 3 * entries; entry += 3) {
+        if (entry[2] == BALTHWYR_NO_LEAF) {
+            printf("gap %zu %zu\n", entry[0], entry[1]);
+        } else {
+            printf("token %zu %zu %zu\n", entry[2], entry[0], entry[1]);
+        }
+    }
+    refused_if(balthwyr_scan_list(graph, graph_len, text, length, &walk, walked, 3 * ROOM, &listed));
+    int alike = entries == listed && scan == walk && memcmp(planned, walked, 3 * entries * sizeof *planned) == 0;
+    printf("%zu entries, by the walk %s\n", entries, alike ? "the same" : "others");
+    return 0;
+}
