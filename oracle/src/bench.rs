@@ -117,18 +117,30 @@ fn pair(name: &str, size: usize) -> Option<(Box<dyn Pair>, usize)> {
     Some((Box::new(Scan::new(graph, text, ways)), size))
 }
 
+/// What the two sides of a task are called.
+fn sides(name: &str) -> [&str; 2] {
+    match name.split_once('-') {
+        Some(("gain" | "loops", _)) => ["plan", "walk"],
+        _ => ["ours", "Rust"],
+    }
+}
+
 /// The ratios of the named tasks.
 fn time(rounds: usize, names: &[&str]) -> Option<()> {
-    println!("{:<22}{:>13}{:>13}{:>9}{:>9}{:>9}", "", "ours", "Rust", "ratio", "least", "greatest");
+    let mut shown = [""; 2];
     for name in names {
+        if sides(name) != shown {
+            shown = sides(name);
+            println!("{:<22}{:>13}{:>13}{:>9}{:>9}{:>9}", "", shown[0], shown[1], "ratio", "least", "greatest");
+        }
         let (mut pair, bytes) = pair(name, 20_000_000)?;
         let times = measure(&mut *pair, rounds);
-        let shown = |seconds: f64| match bytes {
+        let speed = |seconds: f64| match bytes {
             0 => format!("{:.3} ms", 1000.0 * seconds),
             _ => format!("{:.1} MB/s", bytes as f64 / seconds / 1e6),
         };
         let [ratio, least, greatest] = times.ratio;
-        println!("{name:<22}{:>13}{:>13}{ratio:>9.3}{least:>9.3}{greatest:>9.3}", shown(times.ours), shown(times.rust));
+        println!("{name:<22}{:>13}{:>13}{ratio:>9.3}{least:>9.3}{greatest:>9.3}", speed(times.ours), speed(times.rust));
     }
     Some(())
 }
