@@ -1,13 +1,14 @@
 -- The comparisons of an edge in their 12 bytes: read by parts, written, and left as they were when another edge's are written. Assumes nothing.
 use mathlib.Core.Path.{_≡_, refl, sym, ap, _∙_}
+use mathlib.Core.Bool.{Bool, true, false, _&&_, _||_}
 use mathlib.Core.List.{List, [], _∷_, _++_, append-assoc}
 use Prim.Native.Nat.{ℕ, suc, _+_, _*_, _-_, _≤_, _<_}
 use native.Mathlib.Omega.{arith}
 use native.Mathlib.Numerals.{add-one}
 use lib.ListN.{length, getD, take, drop, set, length-take, length-drop}
-use lib.Seq.{sets, sets-eq, length-sets, length-take-le, ext-getD, getD-take, getD-drop, getD-set-other, drop-append-add, getD-at, take-suc}
+use lib.Seq.{sets, sets-eq, length-sets, length-take-le, ext-getD, getD-take, getD-drop, getD-set-other, drop-append-add, getD-at, take-suc, drop-cons}
 use Rattle.lists.proofs.Buffers.{sets-append}
-use Rattle.classes.specs.Classes.{Class, someHolds, comparisons, cost}
+use Rattle.classes.specs.Classes.{Class, inside, someHolds, comparisons, cost}
 use Rattle.classes.specs.ClassAnswers.{listed, asComparisons}
 use Rattle.classes.specs.declared.byte_class.Comparisons.{Comparisons}
 use Rattle.classes.proofs.Few.{few-comparisons, few-exceptions, laid-long, listed-front}
@@ -25,6 +26,18 @@ parts-hold tests e b =
     let h : at + 10 - (at + 7) ≡ 3 = omega arith in
     let x : at + 12 - (at + 10) ≡ 2 = omega arith in
     rw (f, l, h, x)
+
+-- one range and no exception
+pub one-holds : (tests : List ℕ) (e b : ℕ) → 12 * e + 12 ≤ length tests → getD tests (12 * e) 0 ≡ 1 → getD tests (12 * e + 7) 0 ≡ 0
+    → inside (record { first = getD tests (12 * e + 1) 0; last = getD tests (12 * e + 4) 0 }) b ≡ someHolds (testsAt tests e) b
+unfolding testsAt
+one-holds tests e b long one none =
+    rw (one, drop-cons tests (12 * e + 1) 0 (omega arith), drop-cons tests (12 * e + 4) 0 (omega arith), drop-cons tests (12 * e + 7) 0 (omega arith), none)
+    (and-or (inside (record { first = getD tests (12 * e + 1) 0; last = getD tests (12 * e + 4) 0 }) b))
+  where
+    and-or : (x : Bool) → x ≡ ((x && true) || false)
+    and-or true = refl
+    and-or false = refl
 
 -- ---- bytes that are written one after another
 

@@ -2,11 +2,11 @@
 ghost use mathlib.Core.Path.{_≡_};
 ghost use Prim.Native.Nat.{_<_};
 ghost use lib.ListN.{length};
-ghost use Rattle.classes.specs.Classes.{someHolds};
+ghost use Rattle.classes.specs.Classes.{inside, someHolds};
 ghost use Rattle.runner.specs.Prepared.{testsAt};
 
-// Whether one of the comparisons of edge e holds of the byte.
-pub fn edge_holds(tests: &[u8], e: usize, byte: u8) -> bool
+// Whether one of the comparisons of edge e holds of the byte, however many there are.
+fn listed_hold(tests: &[u8], e: usize, byte: u8) -> bool
     requires { ⌜ e < 2048 ⌝ }
     requires { ⌜ length (now tests) ≡ 24576 ⌝ }
     ensures { λ r. ⌜ r ≡ someHolds (testsAt (now (tests .entry)) e) byte ⌝ }
@@ -21,4 +21,27 @@ pub fn edge_holds(tests: &[u8], e: usize, byte: u8) -> bool
         count,
         byte,
     )
+}
+
+// Whether the byte lies in a range.
+fn in_range(first: u8, last: u8, byte: u8) -> bool
+    ensures { λ r. ⌜ r ≡ inside (record { first = first; last = last }) byte ⌝ }
+{
+    first <= byte && byte <= last
+}
+
+// Whether one of the comparisons of edge e holds of the byte. Most edges have one range and no exception: a token's byte is then tested by two
+// comparisons and nothing else.
+pub fn edge_holds(tests: &[u8], e: usize, byte: u8) -> bool
+    requires { ⌜ e < 2048 ⌝ }
+    requires { ⌜ length (now tests) ≡ 24576 ⌝ }
+    ensures { λ r. ⌜ r ≡ someHolds (testsAt (now (tests .entry)) e) byte ⌝ }
+{
+    let at = 12 * e;
+    if tests[at] == 1 {
+        if tests[at + 7] == 0 {
+            return in_range(tests[at + 1], tests[at + 4], byte);
+        }
+    }
+    listed_hold(tests, e, byte)
 }

@@ -1,114 +1,59 @@
--- The comparisons of an edge are tested where they stand: each part is lent from its place in the edge's 12 bytes. Assumes nothing.
+-- One range and no exception is tested by two comparisons; all else goes through the list. Assumes nothing.
 use borrow.Author.Needs.{needs}
-use Prim.Native.Nat.{_*_}
 use native.Mathlib.Omega.{arith}
-use Rattle.runner.proofs.Packed.{parts-hold}
+use Rattle.runner.proofs.Packed.{one-holds}
 use Rattle.runner.proofs.tests.edge_holds.Statement.{statement}
 use Rattle.runner.proofs.tests.edge_holds.Tie as tie
 
 mul-at : tie.Need-mul-at
 mul-at c = search needs
 
-shared-slice-read-count : tie.Need-shared-slice-read-count
-shared-slice-read-count c = search needs
+shared-slice-read-if1 : tie.Need-shared-slice-read-if1
+shared-slice-read-if1 c = search needs
 
-cast-count : tie.Need-cast-count
-cast-count c = omega (arith, c .shared-slice-known2 .given (12 * c .before .before .args .e))
+add-if2 : tie.Need-add-if2
+add-if2 c = search needs
 
-add-some-holds : tie.Need-add-some-holds
-add-some-holds c = search needs
+shared-slice-read-if2 : tie.Need-shared-slice-read-if2
+shared-slice-read-if2 c = search needs
 
-add-some-holds-2 : tie.Need-add-some-holds-2
-add-some-holds-2 c = search needs
+add-in-range : tie.Need-add-in-range
+add-in-range c = search needs
 
-sub-some-holds : tie.Need-sub-some-holds
-sub-some-holds c = search needs
+shared-slice-read-in-range : tie.Need-shared-slice-read-in-range
+shared-slice-read-in-range c = search needs
 
-part-some-holds-start : tie.Need-part-some-holds-start
-part-some-holds-start c = search needs
+add-in-range-2 : tie.Need-add-in-range-2
+add-in-range-2 c = search needs
 
-part-some-holds-end : tie.Need-part-some-holds-end
-part-some-holds-end c = search needs
+shared-slice-read-in-range-2 : tie.Need-shared-slice-read-in-range-2
+shared-slice-read-in-range-2 c = search needs
 
-add-some-holds-3 : tie.Need-add-some-holds-3
-add-some-holds-3 c = search needs
-
-add-some-holds-4 : tie.Need-add-some-holds-4
-add-some-holds-4 c = search needs
-
-sub-some-holds-2 : tie.Need-sub-some-holds-2
-sub-some-holds-2 c = search needs
-
-part-some-holds-start-2 : tie.Need-part-some-holds-start-2
-part-some-holds-start-2 c = search needs
-
-part-some-holds-end-2 : tie.Need-part-some-holds-end-2
-part-some-holds-end-2 c = search needs
-
-add-some-holds-5 : tie.Need-add-some-holds-5
-add-some-holds-5 c = search needs
-
-add-some-holds-6 : tie.Need-add-some-holds-6
-add-some-holds-6 c = search needs
-
-sub-some-holds-3 : tie.Need-sub-some-holds-3
-sub-some-holds-3 c = search needs
-
-part-some-holds-start-3 : tie.Need-part-some-holds-start-3
-part-some-holds-start-3 c = search needs
-
-part-some-holds-end-3 : tie.Need-part-some-holds-end-3
-part-some-holds-end-3 c = search needs
-
-add-some-holds-7 : tie.Need-add-some-holds-7
-add-some-holds-7 c = search needs
-
-add-some-holds-8 : tie.Need-add-some-holds-8
-add-some-holds-8 c = search needs
-
-sub-some-holds-4 : tie.Need-sub-some-holds-4
-sub-some-holds-4 c = search needs
-
-part-some-holds-start-4 : tie.Need-part-some-holds-start-4
-part-some-holds-start-4 c = search needs
-
-part-some-holds-end-4 : tie.Need-part-some-holds-end-4
-part-some-holds-end-4 c = search needs
-
-some-holds-requires : tie.Need-some-holds-requires
-some-holds-requires c κs = search needs
+in-range-requires : tie.Need-in-range-requires
+in-range-requires c κs = search needs
 
 returns : tie.Need-returns
-returns c =
-    let given = c .before .before .before .before .before .before .before .args in
-    rw (c .some-holds .ensures) (parts-hold (given .tests .now) (given .e) (given .byte))
+returns c = ?
+
+listed-hold-requires : tie.Need-listed-hold-requires
+listed-hold-requires c κs = search needs
+
+returns-2 : tie.Need-returns-2
+returns-2 c = search needs
 
 pub edge-holds-spec : {M : Type 1} → statement M
 edge-holds-spec =
     tie.close
     (tie.spec
     mul-at
-    shared-slice-read-count
-    cast-count
-    add-some-holds
-    add-some-holds-2
-    sub-some-holds
-    part-some-holds-start
-    part-some-holds-end
-    add-some-holds-3
-    add-some-holds-4
-    sub-some-holds-2
-    part-some-holds-start-2
-    part-some-holds-end-2
-    add-some-holds-5
-    add-some-holds-6
-    sub-some-holds-3
-    part-some-holds-start-3
-    part-some-holds-end-3
-    add-some-holds-7
-    add-some-holds-8
-    sub-some-holds-4
-    part-some-holds-start-4
-    part-some-holds-end-4
-    some-holds-requires
-    returns)
+    shared-slice-read-if1
+    add-if2
+    shared-slice-read-if2
+    add-in-range
+    shared-slice-read-in-range
+    add-in-range-2
+    shared-slice-read-in-range-2
+    in-range-requires
+    returns
+    listed-hold-requires
+    returns-2)
