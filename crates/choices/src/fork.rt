@@ -38,9 +38,10 @@ pub fn fork_at(graph: &[u16], s: usize) -> Fork
             }
         }
     }
+    let own = leads[s];
     Fork {
         count: count,
-        own: leads[s],
+        own: own,
         low: low,
         high: high,
     }

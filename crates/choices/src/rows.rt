@@ -64,15 +64,17 @@ pub fn row_at(graph: &[u16], s: usize, tables: &[u8; 2048], count: usize) -> Row
     ensures { λ r. ⌜ (r .own ∷ (r .low ∷ (r .high ∷ []))) ≡ planRow base (held (storeOf (now (tables .entry)) count)) (graphFrom (now (graph .entry))) s ⌝ }
 {
     let fork = fork_at(graph, s);
-    let own = own_word(graph, s, fork.own, tables, count);
-    if 2 < fork.count {
+    let edges = fork.count;
+    let to_self = fork.own;
+    let own = own_word(graph, s, to_self, tables, count);
+    if 2 < edges {
         return Row {
             own: own,
             low: 65535,
             high: 65535,
         };
     }
-    if fork.count == 0 {
+    if edges == 0 {
         return Row {
             own: own,
             low: 0,
@@ -80,7 +82,7 @@ pub fn row_at(graph: &[u16], s: usize, tables: &[u8; 2048], count: usize) -> Row
         };
     }
     let low = edge_word(graph, s, fork.low, tables, count);
-    if fork.count == 1 {
+    if edges == 1 {
         return Row {
             own: own,
             low: low,

@@ -28,10 +28,11 @@ pub(crate) fn refusal(graph: &[u16], plan: &[u16], store: MaskStore) -> u8
         return 14;
     }
     let tables = store.tables;
-    if !choices::rows::agrees(graph, plan, &tables, count) {
-        return 14;
+    if choices::rows::agrees(graph, plan, &tables, count) {
+        0
+    } else {
+        14
     }
-    0
 }
 
 // The same of any graph words: 12, 14 or 15; or 0.

@@ -1,5 +1,6 @@
 pub mod Packed
 pub mod Preparing
 pub mod SelfRun
+pub mod PlanRow
 pub mod Leading
 pub mod Running

@@ -1,6 +1,6 @@
 -- One turn of the run of a text by a plan, by the numbers that the code holds: the self run, the marks, the byte that leads on or the end step.
 -- Assumes nothing.
-use mathlib.Core.Path.{_≡_, refl, sym, ap, subst, _∙_}
+use mathlib.Core.Path.{_≡_, sym, ap, subst, _∙_}
 use mathlib.Core.Bool.{true, false}
 use mathlib.Core.List.{List, []}
 use mathlib.Core.Option.{Option, none, some}
@@ -21,7 +21,7 @@ use Rattle.plan_rules.specs.Run.{selfOf, selfTakes, ledBy, runFrom, rowsOf}
 use Rattle.plan_rules.proofs.RunIsWalk.{empty-runs}
 use Rattle.runner.specs.Prepared.{PlanOn}
 use Rattle.runner.proofs.SelfRun.{self-passes}
-use Rattle.runner.proofs.Leading.{self-word, self-few}
+use Rattle.runner.proofs.PlanRow.{self-word, self-few}
 
 -- ---- the end step
 

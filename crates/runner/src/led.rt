@@ -13,7 +13,7 @@ ghost use Rattle.plan_rules.specs.Run.{edgeTakes, ledBy, rowsOf};
 ghost use Rattle.runner.specs.Prepared.{testsAt, Prepared, PlanOn};
 
 // Whether the test that plan word w names, of the edge whose comparisons stand at e, takes the byte.
-pub fn edge_takes(tables: &[u8; 2048], tests: &[u8], w: usize, e: usize, byte: u8) -> bool
+fn edge_takes(tables: &[u8; 2048], tests: &[u8], w: usize, e: usize, byte: u8) -> bool
     requires { ⌜ (w < 66) × (e < 2048) × (length (now tests) ≡ 24576) ⌝ }
     ensures { λ r. ⌜ ((st : State) → (u : ℕ) → (w ≡ 1 → testsAt (now (tests .entry)) e ≡ comparisons (classTo st u)) → r ≡ edgeTakes (now (tables .entry)) st u w byte) ⌝ }
 {
@@ -27,7 +27,7 @@ pub fn edge_takes(tables: &[u8; 2048], tests: &[u8], w: usize, e: usize, byte: u
 }
 
 // The state that the byte leads to from state s, or 65,535.
-pub fn led_on(
+pub(crate) fn led_on(
     graph: &[u16],
     plan: &[u16],
     tables: &[u8; 2048],

@@ -13,16 +13,16 @@ ghost use Rattle.runner.specs.Prepared.{Prepared, PlanOn};
 use graph::read::Record;
 
 // The record after the end step from state s, k bytes passed: "the end target, if any, records its accept with the text's length".
-pub fn ended(graph: &[u16], s: usize, k: usize, r: Record) -> Record
+fn ended(graph: &[u16], s: usize, k: usize, r: Record) -> Record
     requires { ⌜ graphFits (now graph) ≡ true ⌝ }
     requires { ⌜ (s < getD (now graph) 0 0) × (getD (now graph) 0 0 ≤ 1024) × (2 + 258 * getD (now graph) 0 0 ≤ length (now graph)) ⌝ }
     ensures { λ q. ⌜ recorded (q .leaf) (q .end) ≡ onward (recorded (r .leaf) (r .end)) (λ u. late (acceptOf (graphFrom (now (graph .entry))) u) (suc k) (recorded (r .leaf) (r .end))) (to (graphFrom (now (graph .entry))) s 256) ⌝ }
 {
-    let t = words::graph::word(graph, s, 256);
-    if t == 65535 {
+    let target = words::graph::word(graph, s, 256);
+    if target == 65535 {
         return r;
     }
-    let marks = words::graph::word(graph, t, 257);
+    let marks = words::graph::word(graph, target, 257);
     graph::read::left(marks % 256, k, r)
 }
 
@@ -48,17 +48,18 @@ pub fn run(
     let mut s = words::word(graph, 1);
     let mut k: usize = 0;
     loop {
-        k = crate::self_run::passed(plan, tables, s, text, k);
+        // the self run first, so that the marks are read where it ends
+        let j = crate::self_run::passed(plan, tables, s, text, k);
         let marks = words::graph::word(graph, s, 257);
-        r = graph::read::entered(marks, k, r);
-        if k == text.len() {
-            return ended(graph, s, k, r);
+        r = graph::read::entered(marks, j, r);
+        if j == text.len() {
+            return ended(graph, s, j, r);
         }
-        let t = crate::led::led_on(graph, plan, tables, ends, tests, s, text[k]);
+        let t = crate::led::led_on(graph, plan, tables, ends, tests, s, text[j]);
         if t == 65535 {
             return r;
         }
         s = t;
-        k += 1;
+        k = j + 1;
     }
 }

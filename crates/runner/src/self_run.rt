@@ -8,7 +8,7 @@ ghost use Rattle.plan_rules.specs.Run.{selfTakes};
 
 // The first place from `from` on whose byte mask i does not have, or the text's length. The table and the bit are found once: a byte costs one
 // look at the text, one at the table and one test.
-pub fn self_run(tables: &[u8; 2048], i: usize, text: &[u8], from: usize) -> usize
+fn self_run(tables: &[u8; 2048], i: usize, text: &[u8], from: usize) -> usize
     requires { ⌜ (i < 64) × (from ≤ length (now text)) × (length (now tables) ≡ 2048) ⌝ }
     ensures { λ r. ⌜ (from ≤ r) × (r ≤ length (now (text .entry))) ⌝ }
     ensures passes { λ r. ⌜ ((j : ℕ) → j < r → from ≤ j → maskHas (now (tables .entry)) i (getD (now (text .entry)) j 0) ≡ true) ⌝ }
@@ -28,7 +28,7 @@ pub fn self_run(tables: &[u8; 2048], i: usize, text: &[u8], from: usize) -> usiz
 }
 
 // Where the run of state s stands after its self run: at its first other byte, or where it was if the plan names no self mask.
-pub fn passed(plan: &[u16], tables: &[u8; 2048], s: usize, text: &[u8], from: usize) -> usize
+pub(crate) fn passed(plan: &[u16], tables: &[u8; 2048], s: usize, text: &[u8], from: usize) -> usize
     requires { ⌜ (s < 1024) × (3 * s < length (now plan)) × (getD (now plan) (3 * s) 0 ≤ 64) × (from ≤ length (now text)) × (length (now tables) ≡ 2048) ⌝ }
     ensures { λ r. ⌜ (from ≤ r) × (r ≤ length (now (text .entry))) ⌝ }
     ensures passes { λ r. ⌜ ((j : ℕ) → j < r → from ≤ j → selfTakes (now (tables .entry)) (getD (now (plan .entry)) (3 * s) 0) (getD (now (text .entry)) j 0) ≡ true) ⌝ }

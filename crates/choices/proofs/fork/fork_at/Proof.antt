@@ -79,8 +79,8 @@ loop-again-4 c =
     let not-led = sym (l .before .before .targets .ensures (l .loop .u) (is-state l (omega arith))) ∙ c .if1 .left in
     (omega arith, forking-not (l .loop .inv .1) not-led)
 
-array-read-t19 : tie.Need-array-read-t19 Inv-loop μ-loop
-array-read-t19 c = let s = start (c .before) in omega (arith, s .pre .1, taken-few (s .args .graph .now) (s .pre .0))
+array-read-own : tie.Need-array-read-own Inv-loop μ-loop
+array-read-own c = let s = start (c .before) in omega (arith, s .pre .1, taken-few (s .args .graph .now) (s .pre .0))
 
 returns : tie.Need-returns Inv-loop μ-loop
 returns c =
@@ -108,5 +108,5 @@ fork-at-spec =
     loop-again-3
     loop-less-4
     loop-again-4
-    array-read-t19
+    array-read-own
     returns)

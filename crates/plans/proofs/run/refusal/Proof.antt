@@ -56,7 +56,7 @@ returns-3 : tie.Need-returns-3
 returns-3 c =
     let at = c .before .before in
     let a = at .before .before .before .before .before .before .before .args in
-    sym (plan-lacks (graphFrom (a .graph .now)) (a .plan .now) (a .store) (long (at .before .before .before)) (took at) _ (stored at) (c .if3 .taken))
+    sym (plan-lacks (graphFrom (a .graph .now)) (a .plan .now) (a .store) (long (at .before .before .before)) (took at) _ (stored at) (λ e. omega (arith, c .if3 .taken)))
 
 agrees-requires : tie.Need-agrees-requires
 agrees-requires c κs =
@@ -67,16 +67,16 @@ agrees-requires c κs =
 
 returns-4 : tie.Need-returns-4
 returns-4 c =
-    let at = c .before .before .before .before .before .before in
-    let a = at .before .before .before .before .before .before .before .args in
-    sym (plan-differs (graphFrom (a .graph .now)) (a .plan .now) (a .store) (long (at .before .before .before)) (took at) _ (stored at) (sym (c .before .agrees .ensures) ∙ not-true _ (c .if4 .taken)))
-
-returns-5 : tie.Need-returns-5
-returns-5 c =
     let same = c .before .before .before .before in
     let at = same .before .before in
     let a = at .before .before .before .before .before .before .before .args in
-    sym (plan-taken (graphFrom (a .graph .now)) (a .plan .now) (a .store) (long (at .before .before .before)) (took at) _ (stored at) (same .if3 .left) (sym (c .before .agrees .ensures) ∙ not-false _ (c .if4 .left)))
+    sym (plan-taken (graphFrom (a .graph .now)) (a .plan .now) (a .store) (long (at .before .before .before)) (took at) _ (stored at) (omega (arith, same .if3 .left)) (sym (c .before .agrees .ensures) ∙ c .if4 .taken))
+
+returns-5 : tie.Need-returns-5
+returns-5 c =
+    let at = c .before .before .before .before .before .before in
+    let a = at .before .before .before .before .before .before .before .args in
+    sym (plan-differs (graphFrom (a .graph .now)) (a .plan .now) (a .store) (long (at .before .before .before)) (took at) _ (stored at) (sym (c .before .agrees .ensures) ∙ c .if4 .left))
 
 pub refusal-spec : {M : Type 1} → statement M
 refusal-spec =

@@ -1,6 +1,5 @@
 -- The run that is left, with the record so far, is the whole run; the measure is what is left of the text. Assumes nothing.
 use mathlib.Core.Path.{_≡_, sym, subst, _∙_}
-use mathlib.Core.Bool.{true, false}
 use mathlib.Core.Option.{none}
 use mathlib.Core.Logic.{⊎-elim}
 use Prim.Native.Nat.{ℕ, _≤_, _<_, _-_, _+_, _*_}
