@@ -27,7 +27,10 @@ fn listed_hold(tests: &[u8], e: usize, byte: u8) -> bool
 fn in_range(first: u8, last: u8, byte: u8) -> bool
     ensures { λ r. ⌜ r ≡ inside (record { first = first; last = last }) byte ⌝ }
 {
-    first <= byte && byte <= last
+    if byte < first {
+        return false;
+    }
+    byte <= last
 }
 
 // Whether one of the comparisons of edge e holds of the byte. Most edges have one range and no exception: a token's byte is then tested by two

@@ -33,7 +33,9 @@ in-range-requires : tie.Need-in-range-requires
 in-range-requires c κs = search needs
 
 returns : tie.Need-returns
-returns c = ?
+returns c =
+    let given = c .before .before .before .before .before .before .before .before .args in
+    rw (c .in-range .ensures) (one-holds (given .tests .now) (given .e) (given .byte) (omega arith) (omega arith) (omega arith))
 
 listed-hold-requires : tie.Need-listed-hold-requires
 listed-hold-requires c κs = search needs
