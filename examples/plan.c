@@ -1,12 +1,25 @@
-/* Plans the graph of a table's image on an empty mask store, and reads a text by the plan and by the walk of the graph: prints how many states, tables and
- * masks the plan has, then a line for each reading, leaf and end or `none`, then a line for each token or gap of the scan by the plan, and whether the
- * walk's are the same.
+/* Plans the graph of a table's image on an empty mask store, and reads a text by the plan and by the walk of the graph. It prints how many states there are,
+ * how many of them are led on by a table, and how many masks the plan needs; both readings of the text from its beginning; the tokens and gaps of the
+ * scan by the plan, leaf, start and end or start and end; and whether the scan by the walk has the same.
  *
  *   rt staticlib capi
  *   gcc -Wall -Wextra -O2 -Iinclude examples/plan.c target/staticlib/libcapi.a -o plan
- *   ./plan examples/json.image '{"a": [1.5, true]}'
+ *   ./plan examples/json.image '[1.5, true] x'
  *
- * prints what stands in examples/json.planned.
+ * prints
+ *
+ *   43 states, 3 by tables, 6 masks
+ *   by the plan: leaf 2, end 1
+ *   by the walk: leaf 2, end 1
+ *   token 2 0 1
+ *   token 9 1 4
+ *   token 5 4 5
+ *   token 11 5 6
+ *   token 6 6 10
+ *   token 3 10 11
+ *   token 11 11 12
+ *   gap 12 13
+ *   8 entries, by the walk the same
  */
 #include <stdio.h>
 #include <stdlib.h>
@@ -68,12 +81,14 @@ int main(int argc, char **argv)
     }
     printf("%zu states, %zu by tables, %zu masks\n", states, tables, added);
 
-    refused_if(balthwyr_run(graph, graph_len, plan, 3 * states, store.tables, sizeof store.tables, store.count, text, length, &found, &leaf, &end));
+    refused_if(balthwyr_run(graph, graph_len, plan, 3 * states, store.tables, sizeof store.tables, store.count, text, length, &found,
+                            &leaf, &end));
     print_reading("plan", found, leaf, end);
     refused_if(balthwyr_read_graph(graph, graph_len, text, length, &found, &leaf, &end));
     print_reading("walk", found, leaf, end);
 
-    refused_if(balthwyr_scan_planned(graph, graph_len, plan, 3 * states, store.tables, sizeof store.tables, store.count, text, length, &scan, planned, 3 * ROOM, &entries));
+    refused_if(balthwyr_scan_planned(graph, graph_len, plan, 3 * states, store.tables, sizeof store.tables, store.count, text, length,
+                                     &scan, planned, 3 * ROOM, &entries));
     for (const size_t *entry = planned; entry < planned + 3 * entries; entry += 3) {
         if (entry[2] == BALTHWYR_NO_LEAF) {
             printf("gap %zu %zu\n", entry[0], entry[1]);
