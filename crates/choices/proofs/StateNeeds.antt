@@ -21,6 +21,7 @@ use Rattle.mask_store.specs.Masks.{grown, allowed, takes}
 use Rattle.mask_store.proofs.Growth.{whole}
 use Rattle.mask_store.proofs.Several.{takes-allowed}
 use Rattle.plan_rules.specs.Plan.{base, Way, bySelf, byTests, byMask, byTable, masked, wayTo, selfNeeds, edgeNeeds, stateNeeds, needs}
+use Rattle.plan_rules.proofs.Lists.{append-all}
 use Rattle.choices.specs.declared.needs.Grown.{Grown}
 use Rattle.choices.specs.Needs.{grownBy}
 use Rattle.choices.specs.declared.fork.Fork.{Fork}
@@ -30,10 +31,6 @@ use Rattle.choices.proofs.Rowwise.{rowsTo, rows-more, rows-front}
 use Rattle.choices.proofs.Growing.{tookAll, asFound, was-taken, store-grown, by-taken, takes-none, grown-nothing, then-taken, then-refused}
 
 -- ---- classes of 256 flags
-
-pub append-all : (a b : List Class) → allL whole a ≡ true → allL whole b ≡ true → allL whole (a ++ b) ≡ true
-append-all [] b h k = k
-append-all (c ∷ a) b h k = let q = and-both (whole c) _ h in and-intro (whole c) _ (q .0) (append-all a b (q .1) k)
 
 module _ (w : List ℕ) (fits : graphFits w ≡ true) (s : ℕ) (h : s < getD w 0 0) where
   abbrev st : State
@@ -55,7 +52,7 @@ module _ (w : List ℕ) (fits : graphFits w ≡ true) (s : ℕ) (h : s < getD w 
   unfolding flatMap
   ways-whole [] = refl
   ways-whole (u ∷ ts) =
-      let f : ℕ → List Class = λ v. masked (wayTo base st s v) (classTo st v) in append-all (f u) (flatMap f ts) (way-whole (wayTo base st s u) u) (ways-whole ts)
+      let f : ℕ → List Class = λ v. masked (wayTo base st s v) (classTo st v) in append-all whole (f u) (flatMap f ts) (way-whole (wayTo base st s u) u) (ways-whole ts)
 
   edges-whole : (ts : List ℕ) → allL whole (edgeNeeds base st s ts) ≡ true
   unfolding edgeNeeds
@@ -69,7 +66,7 @@ module _ (w : List ℕ) (fits : graphFits w ≡ true) (s : ℕ) (h : s < getD w 
   unfolding stateNeeds selfNeeds
   state-whole =
       let ts = targets (length (graphFrom w .states)) st in
-      append-all (selfNeeds st s ts) (edgeNeeds base st s ts) (own-whole (anyL (eqb s) ts)) (edges-whole ts)
+      append-all whole (selfNeeds st s ts) (edgeNeeds base st s ts) (own-whole (anyL (eqb s) ts)) (edges-whole ts)
 
 -- the classes that the states below s need
 pub needs-whole : (w : List ℕ) → graphFits w ≡ true → (s : ℕ) → s ≤ getD w 0 0 → allL whole (rowsTo (stateNeeds base (graphFrom w)) s) ≡ true
@@ -79,7 +76,7 @@ needs-whole w fits (suc s) h =
     let f = stateNeeds base (graphFrom w) in
     ap (λ (k : ℕ). allL whole (rowsTo f k)) (sym (add-one s))
     ∙ ap (allL whole) (rows-more f s)
-    ∙ append-all (rowsTo f s) (f s) (needs-whole w fits s (omega arith)) (state-whole w fits s (omega arith))
+    ∙ append-all whole (rowsTo f s) (f s) (needs-whole w fits s (omega arith)) (state-whole w fits s (omega arith))
 
 -- ---- the classes of one state, by how many edges it has
 

@@ -20,20 +20,14 @@ use Rattle.rules.proofs.Flat.{from-length}
 use Rattle.edges.specs.Edges.{classTo, leadsTo, targets}
 use Rattle.plan_rules.specs.Plan.{base, byTable}
 use Rattle.choices.specs.Fork.{forkIn, forkOf}
+use Rattle.choices.proofs.Forks.{target-below as edge-below}
 use Rattle.choices.specs.declared.fork.Fork.{Fork}
 use Rattle.runner.specs.Prepared.{testsAt, targetsOf, edgeClass, Prepared}
 use Rattle.runner.proofs.Packed.{Edge}
 
 -- ---- targets are states
 
-pub targets-below : (n : ℕ) (st : State) → allL (λ u. ltb u n) (targets n st) ≡ true
-unfolding targets
-targets-below n st =
-    let at : (i : ℕ) → i < length (below n) → ltb (getD (below n) i 0) n ≡ true
-    = λ i h. let k : i < n = omega (arith, length-tab 0 n (λ (u : ℕ). u)) in rw (getD-tab0 n (λ (u : ℕ). u) i 0 k) (lt-ltb i n k) in
-    those-keep eqb eqb-sound (leadsTo st) (λ u. ltb u n) (below n) (all-intro (λ u. ltb u n) (below n) 0 at)
-
--- 0, where there is no such edge, is one too
+-- the target of an edge is a state, and so is 0, which stands where there is no such edge
 pub target-below : (n : ℕ) (st : State) (j : ℕ) → 0 < n → getD (targets n st) j 0 < n
 target-below n st j h = go (order j (length (targets n st)))
   where
@@ -41,7 +35,7 @@ target-below n st j h = go (order j (length (targets n st)))
     none k = rw (List·getD-eq-default (targets n st) 0 k) h
 
     go : Order j (length (targets n st)) → getD (targets n st) j 0 < n
-    go (less l) = ltb-true _ _ (all-at (λ u. ltb u n) (targets n st) j 0 (targets-below n st) l)
+    go (less l) = edge-below n st j l
     go (equal e) = none (omega arith)
     go (more m) = none (omega arith)
 

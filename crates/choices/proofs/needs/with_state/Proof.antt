@@ -16,10 +16,11 @@ use Rattle.mask_store.specs.declared.MaskStore.{MaskStore}
 use Rattle.mask_store.specs.Masks.{takes, grown}
 use Rattle.mask_store.proofs.Growth.{whole}
 use Rattle.plan_rules.specs.Plan.{base, wayTo, edgeNeeds}
+use Rattle.plan_rules.proofs.Lists.{append-all}
 use Rattle.choices.specs.Needs.{grownBy}
 use Rattle.choices.proofs.Forks.{low-below, high-below}
 use Rattle.choices.proofs.Growing.{was-taken, store-grown, front-refused, grown-allows, then-taken, then-refused}
-use Rattle.choices.proofs.StateNeeds.{append-all, own-whole, way-whole, own, low, high, state-own, state-table, state-none, state-one, state-two, state-low}
+use Rattle.choices.proofs.StateNeeds.{own-whole, way-whole, own, low, high, state-own, state-table, state-none, state-one, state-two, state-low}
 use Rattle.choices.proofs.needs.with_state.Statement.{statement}
 use Rattle.choices.proofs.needs.with_state.Tie as tie
 
@@ -58,7 +59,7 @@ both-wide : (o : tie.After-with-own) → allL whole (own-of o ++ low-of o) ≡ t
 both-wide o =
     let s = start o in
     let u = o .before .fork-at .result .low in
-    append-all (own-of o) (low-of o) (own-wide o)
+    append-all whole (own-of o) (low-of o) (own-wide o)
     (way-whole (s .args .graph .now) (s .pre .0) (s .args .s) (s .pre .1 .0) (wayTo base (stateOf (g o) (s .args .s)) (s .args .s) u) u)
 
 -- ---- the self edge's class is taken, and there are one or two edges
