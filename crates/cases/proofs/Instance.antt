@@ -22,12 +22,12 @@ use Rattle.graph.specs.declared.new.Answer.the-variants.{Built as Made}
 use Rattle.mask_store.specs.declared.MaskStore.{MaskStore}
 use Rattle.mask_store.specs.Masks.{tableAt, classAt, held, written, heldWith, grown, allowed, takes}
 use Rattle.edges.specs.Edges.{classTo, leadsTo, targets}
-use Rattle.plan_rules.specs.Plan.{base, byTable, wayTo, selfNeeds, edgeNeeds, stateNeeds, needs, selfWord, edgeWords, planRow, planWords, planOf}
+use Rattle.plan_rules.specs.Plan.{base, byTable, wayTo, selfNeeds, edgeNeeds, stateNeeds, needs, selfWord, edgeWords, planRow, planWords, planOf, holdsPlan}
 use Rattle.plan_rules.proofs.RunIsWalk.{base-sane}
 use Rattle.plans.specs.declared.plan.PlanAnswer.the-variants.{Planned}
 use Rattle.plans.specs.Plan.{PlanCall, planCall}
 use Rattle.plans.specs.Run.{runCall}
-use Rattle.plans.proofs.Demand3.{own-alike}
+use Rattle.plans.proofs.Demand3.{readings-alike, own-alike}
 use Rattle.cases.specs.Answers.{costOf, refusalOf, graphOf}
 use Rattle.cases.specs.Table.{by, all, k1, k4}
 
@@ -157,6 +157,23 @@ looped-planned = refl
 
 pub looped-runs : (text : List ℕ) → Bytes text → runCall base looped-words (looped-call .buffer) (looped-call .planning .store) text ≡ tableRead looped text
 looped-runs = own-alike base base-sane looped (replicate 1034 7) [] _ looped-made looped-clean (replicate 9 7) emptied emptied-size 1 looped-planned
+
+-- and on a store that planning did not leave: `a` is mask 0 as in the plan, masks 1 and 2 are other classes, every bit from mask 3 on is set
+unfoldable pub elsewhere : MaskStore
+elsewhere = record { tables = replicate 97 0xF8 ++ 0xF9 ∷ 0xFA ∷ (replicate 157 0xF8 ++ replicate 1792 0xFF); count = 3 }
+
+elsewhere-allowed : allowed elsewhere ≡ true
+unfolding elsewhere tableAt classAt held allowed
+elsewhere-allowed = refl
+
+elsewhere-holds : holdsPlan base (graphFrom looped-words) emptied elsewhere ≡ true
+unfolding looped refusalOf graphOf newOf writtenOr wroteOr9 wrote conflicts emptied elsewhere costOf graphBuffer stateFrom graphFrom graphFits tableAt classAt held heldWith classTo leadsTo targets byTable wayTo selfNeeds edgeNeeds stateNeeds needs holdsPlan
+elsewhere-holds = refl
+
+pub looped-elsewhere : (text : List ℕ) → Bytes text → runCall base looped-words (looped-call .buffer) elsewhere text ≡ tableRead looped text
+looped-elsewhere text bytes =
+    readings-alike base base-sane looped (replicate 1034 7) [] _ looped-made looped-clean text bytes
+    .run-alike (replicate 9 7) emptied 1 looped-planned elsewhere elsewhere-allowed elsewhere-holds
 
 -- ---- K4
 
