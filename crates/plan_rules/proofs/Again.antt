@@ -9,13 +9,13 @@ use borrow.Author.Tests.{eqb-true, eq-eqb, ltb-true, lt-ltb, leb-true, le-leb}
 use lib.Dec.{eqb, leb, ltb}
 use lib.ListN.{length, getD, take, replicate}
 use Rattle.lists.specs.Lists.{below, anyL, allL, eqList}
-use Rattle.lists.proofs.Elements.{eqb-sound, list-sound}
+use Rattle.lists.proofs.Elements.{all-intro, eqb-sound, list-sound}
 use Rattle.rules.specs.Graph.{State, Graph, stateOf}
 use Rattle.classes.specs.Classes.{Class}
 use Rattle.mask_store.specs.declared.MaskStore.{MaskStore}
-use Rattle.mask_store.specs.Masks.{classAt, held, sameClass, numberOf, among, noneTwice, met, heldWith, grown, allowed, takes}
+use Rattle.mask_store.specs.Masks.{held, numberOf, among, noneTwice, met, heldWith, grown, allowed, takes}
 use Rattle.lists.proofs.Bools.{Is, yes-is, no-is, is, and-both, and-intro, or-left, or-right}
-use Rattle.mask_store.proofs.Numbers.{same-eq, number-own, number-stays, met-all, met-has}
+use Rattle.mask_store.proofs.Numbers.{number-own, number-stays, met-all, met-has}
 use Rattle.mask_store.proofs.MaskLaws.{length-held, held-at}
 use Rattle.mask_store.proofs.Growth.{grown-none}
 use Rattle.edges.specs.Edges.{classTo, targets}
@@ -23,6 +23,7 @@ use Rattle.plan_rules.specs.Plan.{Settings, Sane, Way, bySelf, byTests, 
 use Rattle.plan_rules.specs.Run.{edgeHeld, rowHeld, rowsOf, isPlan}
 use Rattle.plan_rules.proofs.Lists.{all-append, append-all, all-replicate, all-weaker, flat-same, flat-all, flat-map}
 use Rattle.plan_rules.proofs.RunIsWalk.{length-planWords, rows-are}
+use Rattle.plan_rules.proofs.Holding.{HeldAs, holds-means}
 
 -- ---- a state's words depend on the numbers of the classes that it needs
 
@@ -139,30 +140,23 @@ module _ (set : Settings) (sane : Sane set) (g : Graph) (store other : MaskStore
   unfolding allowed
   once = and-both (leb (other .count) 64) _ fine .1
 
-  abbrev holdsOne : Class → Bool
-  holdsOne c = ltb (numberOf all c) (other .count) && sameClass (classAt (other .tables) (numberOf all c)) c
-
   -- a class that is held under a number has that number
-  one-number : (c : Class) → holdsOne c ≡ true → (numberOf (held other) c ≡ numberOf all c) × (numberOf all c < other .count)
+  one-number : (c : Class) → HeldAs all other c → numberOf (held other) c ≡ numberOf all c
   one-number c h =
-      let q = and-both (ltb (numberOf all c) (other .count)) _ h in
-      let l : numberOf all c < other .count = ltb-true _ _ (q .0) in
-      let e : getD (held other) (numberOf all c) [] ≡ c = held-at other (numberOf all c) l ∙ same-eq _ _ (q .1) in
-      (ap (numberOf (held other)) (sym e) ∙ number-own (held other) once (numberOf all c) (subst (λ (m : ℕ). numberOf all c < m) (sym (length-held other)) l), l)
+      let e : getD (held other) (numberOf all c) [] ≡ c = held-at other (numberOf all c) (h .below-count) ∙ h .same-mask in
+      ap (numberOf (held other)) (sym e) ∙ number-own (held other) once (numberOf all c) (subst (λ (m : ℕ). numberOf all c < m) (sym (length-held other)) (h .below-count))
 
-  one-alike : (c : Class) → holdsOne c ≡ true → alike set all (held other) (other .count) c ≡ true
-  one-alike c h = let (e, l) = one-number c h in and-intro _ _ (eq-eqb _ _ (sym e)) (lt-ltb _ _ l)
+  one-alike : (c : Class) → HeldAs all other c → alike set all (held other) (other .count) c ≡ true
+  one-alike c h = and-intro _ _ (eq-eqb _ _ (sym (one-number c h))) (lt-ltb _ _ (h .below-count))
 
-  one-among : (c : Class) → holdsOne c ≡ true → among (held other) c ≡ true
-  one-among c h = let (e, l) = one-number c h in lt-ltb (numberOf (held other) c) (length (held other)) (omega (arith, length-held other))
+  one-among : (c : Class) → HeldAs all other c → among (held other) c ≡ true
+  one-among c h = lt-ltb (numberOf (held other) c) (length (held other)) (omega (arith, one-number c h, h .below-count, length-held other))
 
   all-alike : allL (alike set all (held other) (other .count)) (needs set g) ≡ true
-  unfolding holdsPlan
-  all-alike = all-weaker holdsOne (alike set all (held other) (other .count)) one-alike (needs set g) holds
+  all-alike = all-intro _ (needs set g) [] (λ j l. one-alike _ (holds-means set g store other holds j l))
 
   all-among : allL (among (held other)) (needs set g) ≡ true
-  unfolding holdsPlan
-  all-among = all-weaker holdsOne (among (held other)) one-among (needs set g) holds
+  all-among = all-intro _ (needs set g) [] (λ j l. one-among _ (holds-means set g store other holds j l))
 
   same-held : heldWith other (needs set g) ≡ held other
   unfolding heldWith

@@ -1,25 +1,26 @@
 -- The store that planning leaves is allowed, and holds the plan's classes under its numbers. Assumes nothing.
-use mathlib.Core.Path.{_≡_, refl, ap, _∙_}
-use mathlib.Core.Bool.{Bool, true, false, cond, _&&_}
+use mathlib.Core.Path.{_≡_, refl}
+use mathlib.Core.Bool.{Bool, true, false, cond}
 use mathlib.Core.List.{List, [], _∷_, flatMap}
 use Prim.Native.Nat.{ℕ, _≤_, _<_}
 use native.Mathlib.Omega.{arith}
-use borrow.Author.Tests.{eq-eqb, lt-ltb, leb-true}
-use lib.Dec.{eqb, ltb}
+use borrow.Author.Tests.{eq-eqb, leb-true}
+use lib.Dec.{eqb}
 use lib.ListN.{length}
 use Rattle.lists.specs.Lists.{anyL, allL}
 use Rattle.lists.proofs.Bools.{and-both, and-intro}
+use Rattle.lists.proofs.Elements.{all-at}
 use Rattle.rules.specs.Graph.{State, Graph, stateOf, graphFrom, graphFits}
 use Rattle.classes.specs.Classes.{Class}
 use Rattle.mask_store.specs.declared.MaskStore.{MaskStore}
-use Rattle.mask_store.specs.Masks.{classAt, sameClass, numberOf, among, heldWith, grown, allowed, takes}
-use Rattle.mask_store.proofs.Numbers.{same-self}
+use Rattle.mask_store.specs.Masks.{among, heldWith, grown, allowed, takes}
 use Rattle.mask_store.proofs.Growth.{whole, given-held, all-given, grown-allowed}
 use Rattle.edges.specs.Edges.{classTo, targets}
 use Rattle.edges.proofs.ByTarget.{class-whole}
 use Rattle.plan_rules.specs.Plan.{Settings, Way, bySelf, byTests, byMask, byTable, wayTo, masked, selfNeeds, edgeNeeds, stateNeeds, needs, holdsPlan}
-use Rattle.plan_rules.proofs.Lists.{append-all, all-weaker, all-flat, all-flat-tab}
+use Rattle.plan_rules.proofs.Lists.{append-all, all-flat, all-flat-tab}
 use Rattle.plan_rules.proofs.Legal.{legal-width}
+use Rattle.plan_rules.proofs.Holding.{HeldAs, holds-shown}
 
 -- ---- the classes that a state of 257 steps needs have 256 flags
 
@@ -74,17 +75,10 @@ module _ (set : Settings) (graph : List ℕ) (legal : graphFits graph ≡ true) 
     unfolding takes
     own-allowed = grown-allowed store (needs set g) size needs-whole few (and-both (allowed store) _ fine .0)
 
-    abbrev holdsOne : Class → Bool
-    holdsOne c =
-        ltb (numberOf (heldWith store (needs set g)) c) (grown store (needs set g) .count)
-        && sameClass (classAt (grown store (needs set g) .tables) (numberOf (heldWith store (needs set g)) c)) c
-
-    one-held : (c : Class) → among (heldWith store (needs set g)) c ≡ true → holdsOne c ≡ true
-    one-held c h =
-        let (l, e) = given-held store (needs set g) size needs-whole few c h in
-        and-intro (ltb (numberOf (heldWith store (needs set g)) c) (grown store (needs set g) .count)) _ (lt-ltb _ _ l)
-        (ap (λ (d : Class). sameClass d c) e ∙ same-self c)
+    one-held : (c : Class) → among (heldWith store (needs set g)) c ≡ true → HeldAs (heldWith store (needs set g)) (grown store (needs set g)) c
+    one-held c h = let (l, e) = given-held store (needs set g) size needs-whole few c h in record { below-count = l; same-mask = e }
 
     pub own-holds : holdsPlan set g store (grown store (needs set g)) ≡ true
-    unfolding holdsPlan
-    own-holds = all-weaker (among (heldWith store (needs set g))) holdsOne one-held (needs set g) (all-given store (needs set g) size needs-whole few)
+    own-holds =
+        holds-shown set g store (grown store (needs set g))
+        (λ j l. one-held _ (all-at (among (heldWith store (needs set g))) (needs set g) j [] (all-given store (needs set g) size needs-whole few) l))
