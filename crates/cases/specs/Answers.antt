@@ -50,6 +50,11 @@ unfoldable pub errorsOf : List ℕ → List ℕ
 unfolding graphOf
 errorsOf w = flatMap errorWords (build (tableOf w) .errors)
 
+-- the rounds of its merge, the last one, that merges nothing, included
+unfoldable pub roundsOf : List ℕ → List ℕ
+unfolding graphOf
+roundsOf w = build (tableOf w) .rounds ∷ []
+
 -- what the graph printer prints for the words' image, low byte first
 abbrev pub imageBytes : List ℕ → List ℕ
 imageBytes w = flatMap (λ x. x % 256 ∷ x / 256 ∷ []) w

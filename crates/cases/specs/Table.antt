@@ -5,7 +5,7 @@ use Prim.Native.Nat.{ℕ, _+_, _-_, _*_}
 use lib.ListN.{replicate, take}
 use Rattle.classes.specs.Classes.{Class}
 use Rattle.display.specs.Text.{bytes}
-use Rattle.cases.specs.Answers.{costOf, priorityNumbers, refusalOf, graphOf, errorsOf, printedOf, readBoth, scanned}
+use Rattle.cases.specs.Answers.{costOf, priorityNumbers, refusalOf, graphOf, errorsOf, roundsOf, printedOf, readBoth, scanned}
 
 pub record Case : Type 0 where
   pub got : List ℕ
@@ -32,6 +32,16 @@ k1 = 4 ∷ 1 ∷ 1 ∷ 1 ∷ 2 ∷ 0 ∷ 0 ∷ (all 0 0 ++ (by 97 2 ++ (all 3 0 
 unfoldable pub k4 : List ℕ
 k4 = 3 ∷ 1 ∷ 2 ∷ 2 ∷ 7 ∷ 0 ∷ 0 ∷ 7 ∷ 0 ∷ 0 ∷ (all 0 0 ++ (by 97 2 ++ (all 0 2 ++ 1 ∷ 0 ∷ 0 ∷ 1 ∷ [])))
 
+-- no universal start
+abbrev pub startless : List ℕ
+startless = 1 ∷ 65535 ∷ 0 ∷ 0 ∷ all 0 0
+
+-- state 1 goes by `a` to 2 and by `b` to 3, state 2 by `c` to 4, state 3 by `c` to 5; states 4 and 5 have leaf 0. States 2 and 3 are equal once 4 and
+-- 5 are merged.
+unfoldable pub twice : List ℕ
+twice =
+    6 ∷ 1 ∷ 1 ∷ 1 ∷ 2 ∷ 0 ∷ 0 ∷ (all 0 0 ++ (replicate 97 0 ++ 2 ∷ 3 ∷ (replicate 159 0 ++ (by 99 4 ++ (by 99 5 ++ (all 0 1 ++ (all 0 1 ++ 0 ∷ 0 ∷ [])))))))
+
 -- ---- classes
 
 -- flags: `before` that are not set, then `size` that are
@@ -56,7 +66,7 @@ table =
     ∷ case (graphOf k1) (2 ∷ 0 ∷ (replicate 97 65535 ++ 1 ∷ (replicate 160 65535 ++ (replicate 257 65535 ++ (255 + 256 * 0) ∷ []))))
     ∷ case (printedOf k1) (bytes "  state0 => StateData() {\n    a => state1\n  }\n  state1 => StateData(early(0) ) {\n  }\n")
     -- "an empty line if there are no states", and "only a line as `refused 3`"
-    ∷ case (printedOf (1 ∷ 65535 ∷ 0 ∷ 0 ∷ all 0 0)) (bytes "\nerror 0\n")
+    ∷ case (printedOf startless) (bytes "\nerror 0\n")
     ∷ case (printedOf (4 ∷ 1 ∷ 1 ∷ 1 ∷ [])) (bytes "refused 3\n")
     -- K2: K1 on `ab`: leaf 0, end 1, by the table and by the graph
     ∷ case (readBoth k1 (bytes "ab")) (0 ∷ 1 ∷ 0 ∷ 1 ∷ 0 ∷ 1 ∷ 0 ∷ 1 ∷ [])
@@ -77,4 +87,13 @@ table =
     ∷ case (priorityNumbers (words 1 0 2 0 0 0) (0xE2 ∷ 0x82 ∷ [])) (0 ∷ 4 ∷ [])
     ∷ case (priorityNumbers (words 2 0 0 0 0 0 ++ words 4 3 0 0 1 0) []) (0 ∷ 6 ∷ [])
     ∷ case (priorityNumbers (words 2 0 0 0 0 0 ++ words 4 0 0 0 1 0) []) (0 ∷ 0 ∷ [])
+    ∷ []
+
+-- ---- rounds of the merge (rule 8: "It stops after a round without a merge"), which no document counts: K1 merges nothing, a build without states has none
+
+unfoldable pub mergeTable : List Case
+mergeTable =
+    case (roundsOf k1) (1 ∷ [])
+    ∷ case (roundsOf startless) (0 ∷ [])
+    ∷ case (roundsOf twice) (3 ∷ [])
     ∷ []
