@@ -1,15 +1,16 @@
 -- The edges of a state by target: each byte is in the class of its own target and of no other, and the targets are the states that a byte leads
 -- to, ascending. Assumes nothing.
-use mathlib.Core.Path.{_≡_, refl, ap, _∙_}
-use mathlib.Core.Bool.{true}
+use mathlib.Core.Path.{_≡_, ap, _∙_}
+use mathlib.Core.Bool.{Bool, true, false}
+use mathlib.Core.List.{List}
 use mathlib.Core.Option.{none, some}
 use Prim.Native.Nat.{ℕ, _≤_, _<_}
-use native.Mathlib.Omega.{arith}
 use lib.Dec.{eqb}
 use lib.ListN.{length, getD, List·getD-map, length-map}
 use lib.Seq.{length-take-le}
-use Rattle.lists.specs.Lists.{below, anyL, eqOption}
+use Rattle.lists.specs.Lists.{tab, below, anyL, eqOption}
 use Rattle.lists.proofs.Any.{option-any}
+use Rattle.lists.proofs.Elements.{getD-tab0}
 use Rattle.lists.proofs.Rising.{Rising, rising-those, rising-below}
 use Rattle.lists.proofs.Those.{any-those}
 use Rattle.classes.specs.Classes.{has}
@@ -39,3 +40,7 @@ module _ (st : State) where
   pub targets-ascend : (n : ℕ) → Rising (targets n st)
   unfolding targets
   targets-ascend n = rising-those (leadsTo st) (below n) (rising-below n)
+
+  -- the flag of a state, where the flags are those of the states that edges lead to
+  pub target-flag : {flags : List Bool} → flags ≡ tab 0 1024 (leadsTo st) → (u : ℕ) → u < 1024 → getD flags u false ≡ leadsTo st u
+  target-flag e u h = ap (λ (l : List Bool). getD l u false) e ∙ getD-tab0 1024 (leadsTo st) u false h

@@ -3,6 +3,7 @@ use mathlib.Core.Path.{_≡_, sym, ap, _∙_}
 use mathlib.Core.Bool.{Bool, true, false, _||_}
 use mathlib.Core.List.{List}
 use mathlib.Core.Option.{Option, none, some}
+use mathlib.Core.Logic.{_⊎_, inl, inr}
 use Prim.Native.Nat.{ℕ, _+_, _*_, _≤_, _<_}
 use native.Mathlib.Numerals.{add-one}
 use native.Mathlib.Omega.{arith}
@@ -11,14 +12,14 @@ use borrow.Author.Tests.{eqb-true, eqb-false, ne-eqb}
 use lib.Dec.{eqb}
 use lib.ListN.{length, getD, set, take, length-map, length-set}
 use lib.Seq.{length-take-le, getD-take, getD-set-same, getD-set-other, take-suc, take-all, ext-getD}
-use Rattle.lists.specs.Lists.{anyL, eqOption}
+use Rattle.lists.specs.Lists.{tab, anyL, eqOption}
 use Rattle.lists.proofs.Bools.{Is, is, yes-is, no-is, or-right, or-false}
-use Rattle.lists.proofs.Any.{any-snoc}
-use Rattle.lists.proofs.Elements.{map-at}
+use Rattle.lists.proofs.Any.{any-found, any-snoc}
+use Rattle.lists.proofs.Elements.{length-tab, getD-tab0, map-at, option-sound}
 use Rattle.rules.specs.Graph.{State, stateOf, to, orNone, graphFrom, graphFits}
 use Rattle.rules.proofs.Flat.{from-width, from-to}
-use Rattle.rules.proofs.Nones.{or-meets}
-use Rattle.rules.proofs.Taken.{taken-long, taken-few}
+use Rattle.rules.proofs.Nones.{or-meets, or-some}
+use Rattle.rules.proofs.Taken.{taken-long, taken-target}
 use Rattle.edges.specs.Edges.{bytesOf, classTo, leadsTo}
 
 -- ---- what the loops keep
@@ -29,11 +30,11 @@ pub record Filling (class flags : List Bool) (b : ℕ) : Type 0 where
   pub room : length flags ≡ 256
   pub front : (k : ℕ) → k < b → getD flags k false ≡ getD class k false
 
--- of the n states, those are marked that a byte below b leads to
-pub record Marking (n : ℕ) (row : List (Option ℕ)) (found : List Bool) (b : ℕ) : Type 0 where
+-- those numbers are marked that a byte below b leads to
+pub record Marking (row : List (Option ℕ)) (found : List Bool) (b : ℕ) : Type 0 where
   pub within : b ≤ 256
   pub room : length found ≡ 1024
-  pub marked : (u : ℕ) → u < n → getD found u false ≡ anyL (eqOption (some u)) (take b row)
+  pub marked : (u : ℕ) → u < 1024 → getD found u false ≡ anyL (eqOption (some u)) (take b row)
 
 module _ (w : List ℕ) (taken : graphFits w ≡ true) (s : ℕ) (h : s < getD w 0 0) where
   abbrev pub st : State
@@ -51,9 +52,9 @@ module _ (w : List ℕ) (taken : graphFits w ≡ true) (s : ℕ) (h : s < getD w
 
   -- ---- the class of an edge
 
-  module _ (u : ℕ) (k : u < getD w 0 0) where
+  module _ (u : ℕ) (k : u < 1024) where
     met : (b : ℕ) → eqOption (some u) (orNone 65535 (word b)) ≡ eqb u (word b)
-    met b = or-meets 65535 (word b) u (λ z. let e = taken-few w taken in omega arith)
+    met b = or-meets 65535 (word b) u (λ z. omega arith)
 
     pub class-length : length (classTo st u) ≡ 256
     unfolding classTo
@@ -81,7 +82,7 @@ module _ (w : List ℕ) (taken : graphFits w ≡ true) (s : ℕ) (h : s < getD w
 
   -- ---- the flags of a class, filled from the front
 
-  module _ (u : ℕ) (k : u < getD w 0 0) where
+  module _ (u : ℕ) (k : u < 1024) where
     pub fill-more : {flags : List Bool} {b : ℕ} → b < 256 → (x : ℕ) → x ≡ word b → Filling (classTo st u) flags b → Filling (classTo st u) (set flags b (eqb u x)) (b + 1)
     fill-more {flags} {b} l x e f =
         record {
@@ -100,8 +101,8 @@ module _ (w : List ℕ) (taken : graphFits w ≡ true) (s : ℕ) (h : s < getD w
 
   -- ---- the targets, marked byte by byte
 
-  module _ {found : List Bool} {b : ℕ} (l : b < 256) (m : Marking (getD w 0 0) (bytesOf st) found b) where
-    pub mark-more : (x : ℕ) → x ≡ word b → x < 1024 → Marking (getD w 0 0) (bytesOf st) (set found x true) (b + 1)
+  module _ {found : List Bool} {b : ℕ} (l : b < 256) (m : Marking (bytesOf st) found b) where
+    pub mark-more : (x : ℕ) → x ≡ word b → x < 1024 → Marking (bytesOf st) (set found x true) (b + 1)
     mark-more x e i =
         record {
           within = omega arith;
@@ -109,7 +110,7 @@ module _ (w : List ℕ) (taken : graphFits w ≡ true) (s : ℕ) (h : s < getD w
           marked = λ u k. go u k (is (eqb u x));
         }
       where
-        go : (u : ℕ) → u < getD w 0 0 → Is (eqb u x) → getD (set found x true) u false ≡ anyL (eqOption (some u)) (take (b + 1) (bytesOf st))
+        go : (u : ℕ) → u < 1024 → Is (eqb u x) → getD (set found x true) u false ≡ anyL (eqOption (some u)) (take (b + 1) (bytesOf st))
         go u k (yes-is q) =
             let r = m .room in
             ap (λ (y : ℕ). getD (set found x true) y false) (eqb-true u x q)
@@ -120,9 +121,8 @@ module _ (w : List ℕ) (taken : graphFits w ≡ true) (s : ℕ) (h : s < getD w
             ∙ m .marked u k
             ∙ sym (leads-more u k b l ∙ ap (λ (y : Bool). anyL (eqOption (some u)) (take b (bytesOf st)) || y) (ap (eqb u) (sym e) ∙ q) ∙ or-false (anyL (eqOption (some u)) (take b (bytesOf st))))
 
-    pub mark-none : (x : ℕ) → x ≡ word b → 1024 ≤ x → Marking (getD w 0 0) (bytesOf st) found (b + 1)
+    pub mark-none : (x : ℕ) → x ≡ word b → 1024 ≤ x → Marking (bytesOf st) found (b + 1)
     mark-none x e i =
-        let few = taken-few w taken in
         record {
           within = omega arith;
           room = m .room;
@@ -133,8 +133,28 @@ module _ (w : List ℕ) (taken : graphFits w ≡ true) (s : ℕ) (h : s < getD w
               ∙ or-false (anyL (eqOption (some u)) (take b (bytesOf st))));
         }
 
-  pub marked-all : {found : List Bool} {b : ℕ} → 256 ≤ b → Marking (getD w 0 0) (bytesOf st) found b → (u : ℕ) → u < getD w 0 0 → getD found u false ≡ leadsTo st u
-  marked-all {found} {b} l m u k =
-      let i = m .within in
-      let e : b ≡ 256 = omega arith in
-      m .marked u k ∙ ap (λ (n : ℕ). anyL (eqOption (some u)) (take n (bytesOf st))) e ∙ leads-all u k
+  pub marked-all : {found : List Bool} {b : ℕ} → 256 ≤ b → Marking (bytesOf st) found b → found ≡ tab 0 1024 (leadsTo st)
+  marked-all {found} {b} l m =
+      ext-getD false found (tab 0 1024 (leadsTo st)) (m .room ∙ sym (length-tab 0 1024 (leadsTo st)))
+      (λ u i. let k : u < 1024 = (let r = m .room in omega arith) in one u k ∙ sym (getD-tab0 1024 (leadsTo st) u false k))
+    where
+      one : (u : ℕ) → u < 1024 → getD found u false ≡ leadsTo st u
+      one u k =
+          let i = m .within in
+          let e : b ≡ 256 = omega arith in
+          m .marked u k ∙ ap (λ (n : ℕ). anyL (eqOption (some u)) (take n (bytesOf st))) e ∙ leads-all u k
+
+  -- ---- an edge leads to a state
+
+  led-here : (u b : ℕ) → b < 256 → getD (bytesOf st) b none ≡ some u → u < getD w 0 0
+  led-here u b l e = go (or-some 65535 (word b) u (sym (row-at b l) ∙ e)) (taken-target w taken s b h (omega arith))
+    where
+      go : (word b ≡ u) × (word b ≡ 65535 → ⊥) → (word b < getD w 0 0) ⊎ (word b ≡ 65535) → u < getD w 0 0
+      go q (inl k) = let z : word b ≡ u = q .0 in omega arith
+      go q (inr z) = absurd (q .1 z)
+
+  pub led-below : (u : ℕ) → leadsTo st u ≡ true → u < getD w 0 0
+  unfolding leadsTo
+  led-below u e =
+      let (b, l, q) = any-found (eqOption (some u)) none (bytesOf st) e in
+      led-here u b (let r = row-length in omega arith) (sym (option-sound .eq (some u) (getD (bytesOf st) b none) q))

@@ -3,9 +3,10 @@
 //
 // They are defined in specs/Edges.antt; what is true of them is in proofs/ByTarget.antt.
 ghost use mathlib.Core.Path.{_≡_};
-ghost use mathlib.Core.Bool.{true, false};
-ghost use Prim.Native.Nat.{ℕ, _<_};
+ghost use mathlib.Core.Bool.{true};
+ghost use Prim.Native.Nat.{_<_};
 ghost use lib.ListN.{getD};
+ghost use Rattle.lists.specs.Lists.{tab};
 ghost use Rattle.rules.specs.Graph.{stateOf, graphFrom, graphFits};
 ghost use Rattle.edges.specs.Edges.{classTo, leadsTo};
 
@@ -25,11 +26,11 @@ pub fn class_to(graph: &[u16], s: usize, u: usize) -> [bool; 256]
     class
 }
 
-// Which states the byte edges of state s lead to.
+// Which states the byte edges of state s lead to: the first n of the 1,024 are the states, and an edge leads to no other (`led-below`).
 pub fn targets(graph: &[u16], s: usize) -> [bool; 1024]
     requires { ⌜ graphFits (now graph) ≡ true ⌝ }
     requires { ⌜ s < getD (now graph) 0 0 ⌝ }
-    ensures { λ r. ⌜ ((u : ℕ) → u < getD (now (graph .entry)) 0 0 → getD r u false ≡ leadsTo (stateOf (graphFrom (now (graph .entry))) s) u) ⌝ }
+    ensures { λ r. ⌜ r ≡ tab 0 1024 (leadsTo (stateOf (graphFrom (now (graph .entry))) s)) ⌝ }
 {
     let mut found = [false; 1024];
     let mut b: usize = 0;

@@ -1,6 +1,6 @@
 -- The loop's invariant: the flags of the bytes below b are those of the class. The measure is the bytes left. Assumes nothing.
 use mathlib.Core.Path.{refl}
-use Prim.Native.Nat.{_-_}
+use Prim.Native.Nat.{_-_, _<_}
 use native.Mathlib.Nat.{not-suc-le-zero}
 use native.Mathlib.Omega.{arith}
 use Rattle.rules.specs.Graph.{stateOf, graphFrom}
@@ -30,6 +30,9 @@ array-write-class c = omega arith
 add-b : tie.Need-add-b Inv-loop μ-loop
 add-b c = omega arith
 
+few : (s : tie.Start Inv-loop μ-loop) → s .args .u < 1024
+few s = omega (arith, s .pre .1 .1, taken-few (s .args .graph .now) (s .pre .0))
+
 loop-less : tie.Need-loop-less Inv-loop μ-loop
 loop-less c = omega arith
 
@@ -37,13 +40,13 @@ loop-again : tie.Need-loop-again Inv-loop μ-loop
 loop-again c =
     let at = c .before .before in
     let s = at .before .before in
-    fill-more (s .args .graph .now) (s .pre .0) (s .args .s) (s .pre .1 .0) (s .args .u) (s .pre .1 .1) (omega arith) _ (c .word .ensures .0) (at .loop .inv)
+    fill-more (s .args .graph .now) (s .pre .0) (s .args .s) (s .pre .1 .0) (s .args .u) (few s) (omega arith) _ (c .word .ensures .0) (at .loop .inv)
 
 returns : tie.Need-returns Inv-loop μ-loop
 returns c =
     let at = c .before in
     let s = at .before .before in
-    filled (s .args .graph .now) (s .pre .0) (s .args .s) (s .pre .1 .0) (s .args .u) (s .pre .1 .1) (c .loop-test .left) (at .loop .inv)
+    filled (s .args .graph .now) (s .pre .0) (s .args .s) (s .pre .1 .0) (s .args .u) (few s) (c .loop-test .left) (at .loop .inv)
 
 pub class-to-spec : {M : Type 1} → statement M
 class-to-spec =

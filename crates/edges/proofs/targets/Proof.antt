@@ -3,7 +3,7 @@ use mathlib.Core.Path.{refl}
 use mathlib.Core.Bool.{false}
 use Prim.Native.Nat.{_-_}
 use native.Mathlib.Omega.{arith}
-use lib.ListN.{getD, getD-replicate}
+use lib.ListN.{getD-replicate}
 use Rattle.rules.specs.Graph.{stateOf, graphFrom}
 use Rattle.rules.proofs.Taken.{taken-long, taken-few}
 use Rattle.edges.specs.Edges.{bytesOf}
@@ -12,18 +12,17 @@ use Rattle.edges.proofs.targets.Statement.{statement}
 use Rattle.edges.proofs.targets.Tie as tie
 
 abbrev Inv-loop : tie.InvT-loop
-Inv-loop graph s found₀ b₀ found b = Marking (getD graph 0 0) (bytesOf (stateOf (graphFrom graph) s)) found b
+Inv-loop graph s found₀ b₀ found b = Marking (bytesOf (stateOf (graphFrom graph) s)) found b
 
 abbrev μ-loop : tie.MeasureT-loop
 μ-loop graph s found₀ b₀ found b = 256 - b
 
 loop-holds : tie.Need-loop-holds Inv-loop μ-loop
 loop-holds c =
-    let s = c .before in
     record {
       within = omega arith;
       room = refl;
-      marked = λ u k. getD-replicate 1024 u false false (let e = taken-few (s .args .graph .now) (s .pre .0) in omega arith);
+      marked = λ u k. getD-replicate 1024 u false false k;
     }
 
 word-requires : tie.Need-word-requires Inv-loop μ-loop

@@ -1,13 +1,14 @@
 -- The loop's invariant: of the targets below u, the count is their number, and `low` and `high` are the first two. The measure is the states left.
 -- Assumes nothing.
 use mathlib.Core.Path.{_≡_, sym, _∙_}
-use mathlib.Core.Bool.{true}
-use Prim.Native.Nat.{_-_, _≤_, _<_}
+use mathlib.Core.Bool.{true, false}
+use Prim.Native.Nat.{ℕ, _-_, _≤_, _<_}
 use native.Mathlib.Omega.{arith}
 use lib.ListN.{getD}
 use Rattle.rules.specs.Graph.{stateOf, graphFrom}
 use Rattle.rules.proofs.Taken.{taken-long, taken-few}
 use Rattle.edges.specs.Edges.{leadsTo}
+use Rattle.edges.proofs.ByTarget.{target-flag}
 use Rattle.choices.proofs.Forks.{Forking, forking-none, forking-first, forking-second, forking-later, forking-not, forked}
 use Rattle.choices.proofs.fork.fork_at.Statement.{statement}
 use Rattle.choices.proofs.fork.fork_at.Tie as tie
@@ -46,11 +47,16 @@ add-count c =
     let few = l .loop .inv .1 .few in
     omega (arith, few)
 
+-- the flag of a state
+flag : (l : tie.At-loop Inv-loop μ-loop) (u : ℕ) → u < getD (start l .args .graph .now) 0 0
+    → getD (l .before .before .targets .result) u false ≡ leadsTo (stateOf (graphFrom (start l .args .graph .now)) (start l .args .s)) u
+flag l u h = target-flag _ (l .before .before .targets .ensures) u (omega (arith, taken-few (start l .args .graph .now) (start l .pre .0)))
+
 -- an edge leads to u
 leads : (c : tie.Then1 Inv-loop μ-loop) →
     let l = c .before .before in
     leadsTo (stateOf (graphFrom (start l .args .graph .now)) (start l .args .s)) (l .loop .u) ≡ true
-leads c = let l = c .before .before in sym (l .before .before .targets .ensures (l .loop .u) (is-state l (omega arith))) ∙ c .if1 .taken
+leads c = let l = c .before .before in sym (flag l (l .loop .u) (is-state l (omega arith))) ∙ c .if1 .taken
 
 loop-less : tie.Need-loop-less Inv-loop μ-loop
 loop-less c = omega arith
@@ -76,7 +82,7 @@ loop-less-4 c = omega arith
 loop-again-4 : tie.Need-loop-again-4 Inv-loop μ-loop
 loop-again-4 c =
     let l = c .before .before in
-    let not-led = sym (l .before .before .targets .ensures (l .loop .u) (is-state l (omega arith))) ∙ c .if1 .left in
+    let not-led = sym (flag l (l .loop .u) (is-state l (omega arith))) ∙ c .if1 .left in
     (omega arith, forking-not (l .loop .inv .1) not-led)
 
 array-read-own : tie.Need-array-read-own Inv-loop μ-loop
@@ -86,7 +92,7 @@ returns : tie.Need-returns Inv-loop μ-loop
 returns c =
     let l = c .before in
     let s = start l in
-    forked (s .args .graph .now) (s .args .s) (l .loop .u) (l .loop .inv .1) (omega (arith, l .before .word .ensures .0)) (s .pre .1) (l .before .before .targets .ensures (s .args .s) (s .pre .1))
+    forked (s .args .graph .now) (s .args .s) (l .loop .u) (l .loop .inv .1) (omega (arith, l .before .word .ensures .0)) (s .pre .1) (flag l (s .args .s) (s .pre .1))
 
 pub fork-at-spec : {M : Type 1} → statement M
 fork-at-spec =

@@ -1,5 +1,6 @@
 -- The loop's invariant: the lines of the targets below u are written, and those from there on are to come. The measure is the states left. Assumes nothing.
 use mathlib.Core.Path.{_≡_, sym, ap, subst, _∙_}
+use mathlib.Core.Bool.{false}
 use mathlib.Core.List.{List, _++_}
 use Prim.Native.Nat.{ℕ, _+_, _≤_, _<_, _-_}
 use native.Mathlib.Omega.{arith}
@@ -9,7 +10,8 @@ use Rattle.rules.specs.Graph.{State, stateOf, graphFrom}
 use Rattle.rules.proofs.Taken.{taken-long, taken-few}
 use Rattle.display.specs.Text.{bytes, Counts}
 use Rattle.display.specs.Display.{edgeLine}
-use Rattle.edges.specs.Edges.{classTo}
+use Rattle.edges.specs.Edges.{classTo, leadsTo}
+use Rattle.edges.proofs.ByTarget.{target-flag}
 use Rattle.display.proofs.Runs.{Underway, wrote-as, wrote-length, starts, ends, goes, underway-as, part-counts}
 use Rattle.display.proofs.Lines.{lined, lined-all, lined-edge, lined-skip, lined-none}
 use Rattle.display.proofs.state.edge_lines.Statement.{statement}
@@ -50,6 +52,10 @@ below l h = omega (arith, l .before .before .word .ensures .0)
 array-read-if1 : tie.Need-array-read-if1 Inv-loop μ-loop
 array-read-if1 c = let s = start (c .before) in omega (arith, below (c .before) (omega arith), taken-few (words s) (s .pre .0))
 
+-- the flag of a state
+flag : (l : tie.At-loop Inv-loop μ-loop) (u : ℕ) → u < getD (words (start l)) 0 0 → getD (l .before .targets .result) u false ≡ leadsTo (st (start l)) u
+flag l u h = target-flag _ (l .before .targets .ensures) u (omega (arith, taken-few (words (start l)) (start l .pre .0)))
+
 class-to-requires : tie.Need-class-to-requires Inv-loop μ-loop
 class-to-requires c κs = let l = c .before .before in (start l .pre .0, (start l .pre .1 .0, below l (omega arith)))
 
@@ -67,7 +73,7 @@ ahead c =
     let l = c .before .before in
     let u = l .loop .u in
     let h = below l (omega arith) in
-    underway-as (lined-edge (st (start l)) (getD (words (start l)) 0 0) u h (sym (l .before .targets .ensures u h) ∙ c .if1 .taken)) (l .loop .inv .1)
+    underway-as (lined-edge (st (start l)) (getD (words (start l)) 0 0) u h (sym (flag l u h) ∙ c .if1 .taken)) (l .loop .inv .1)
 
 -- as the code has the class
 same-line : (c : tie.After-class-to Inv-loop μ-loop) → line (c .before .before .before) ≡ bytes "\n" ++ edgeLine (c .class-to .result) (c .before .before .before .loop .u)
@@ -100,7 +106,7 @@ loop-again-2 c =
     let l = c .before .before in
     let u = l .loop .u in
     let h = below l (omega arith) in
-    (omega arith, underway-as (lined-skip (st (start l)) (getD (words (start l)) 0 0) u h (sym (l .before .targets .ensures u h) ∙ c .if1 .left)) (l .loop .inv .1))
+    (omega arith, underway-as (lined-skip (st (start l)) (getD (words (start l)) 0 0) u h (sym (flag l u h) ∙ c .if1 .left)) (l .loop .inv .1))
 
 returns : tie.Need-returns Inv-loop μ-loop
 returns c =
