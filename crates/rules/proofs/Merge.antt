@@ -136,26 +136,29 @@ fewer g e =
     lt : {a b c : ℕ} → a ≤ b → (a ≡ b → ⊥) → c ≡ a → c < b
     lt h n e = omega arith
 
-all-there : (g : Graph) → mergesNone g ≡ true → length (g .states) ≤ length (distinct same (g .states))
-unfolding mergesNone
-all-there g e = let q = eqb-true (length (distinct same (g .states))) (length (g .states)) e in omega arith
-
-rounds-apart : (k : ℕ) (g : Graph) → length (g .states) < k → Apart same same-sound (mergeFor k g .graph .states)
-rounds-apart zero g h = absurd (not-suc-le-zero h)
-rounds-apart (suc k) g h = go (is (mergesNone g)) (rounds-apart k (mergeRound g))
+rounds-none : (k : ℕ) (g : Graph) → length (g .states) < k → mergesNone (mergeFor k g .graph) ≡ true
+rounds-none zero g h = absurd (not-suc-le-zero h)
+rounds-none (suc k) g h = go (is (mergesNone g)) (rounds-none k (mergeRound g))
   where
-    go : Is (mergesNone g) → (length (mergeRound g .states) < k → Apart same same-sound (mergeFor k (mergeRound g) .graph .states))
-        → Apart same same-sound (mergeFor (suc k) g .graph .states)
-    go (yes-is q) f =
-        rw (stops k g q)
-        (subst (Apart same same-sound)
-        (distinct-all same same-sound (g .states) (all-there g q))
-        (distinct-apart same same-sound (g .states)))
+    go : Is (mergesNone g) → (length (mergeRound g .states) < k → mergesNone (mergeFor k (mergeRound g) .graph) ≡ true)
+        → mergesNone (mergeFor (suc k) g .graph) ≡ true
+    go (yes-is q) f = rw (stops k g q) q
     go (no-is q) f = rw (goes-on k g q) (f (let l = fewer g q in omega arith))
 
-pub merged-apart : (g : Graph) → Apart same same-sound (merged g .graph .states)
+-- the rounds were enough: one more would merge nothing
+pub merged-none : (g : Graph) → mergesNone (merged g .graph) ≡ true
 unfolding merged
-merged-apart g = rounds-apart (suc (length (g .states))) g (omega arith)
+merged-none g = rounds-none (suc (length (g .states))) g (omega arith)
+
+-- where a round merges nothing, no two states are equal
+none-apart : (g : Graph) → mergesNone g ≡ true → Apart same same-sound (g .states)
+unfolding mergesNone
+none-apart g e =
+    let q = eqb-true (length (distinct same (g .states))) (length (g .states)) e in
+    subst (Apart same same-sound) (distinct-all same same-sound (g .states) (omega arith)) (distinct-apart same same-sound (g .states))
+
+pub merged-apart : (g : Graph) → Apart same same-sound (merged g .graph .states)
+merged-apart g = none-apart (merged g .graph) (merged-none g)
 
 -- the rounds are at most the states merged away, and one
 rounds-bound : (k : ℕ) (g : Graph) → mergeFor k g .rounds + length (mergeFor k g .graph .states) ≤ length (g .states) + 1
