@@ -20,3 +20,4 @@ pub mod Disjunctions
 pub mod Intervals
 pub mod Selecting
 pub mod Numbers
+pub mod Tellings
