@@ -20,7 +20,8 @@ use Rattle.plan_rules.specs.Plan.{base, needs, planSize}
 use Rattle.scans.specs.declared.scan.Scan.{Scan}
 use Rattle.scans.specs.List.{ScanList, noList}
 use Rattle.planning.specs.Plan.{PlanCall, planTold, noPlan, planCall}
-use Rattle.plans.specs.Run.{planRefusal, runRefusal, runCall, past, plannedRefusal, plannedList}
+use Rattle.scans.specs.Scan.{past}
+use Rattle.plans.specs.Run.{planRefusal, runRefusal, runCall, plannedRefusal, plannedList}
 use Rattle.capi.specs.Stores.{isStore, storeIn}
 use Rattle.capi.specs.Plans.{noStore, noStoreScan, planIn, runIn, listIn}
 

@@ -13,7 +13,8 @@ use Rattle.plan_rules.specs.Plan.{base, planSize}
 use Rattle.scans.specs.declared.scan.Scan.{Scan}
 use Rattle.scans.specs.List.{ScanList, noList}
 use Rattle.planning.specs.Plan.{PlanCall, noPlan, planCall}
-use Rattle.plans.specs.Run.{runCall, past, plannedList}
+use Rattle.scans.specs.Scan.{past}
+use Rattle.plans.specs.Run.{runCall, plannedList}
 use Rattle.capi.specs.Stores.{isStore}
 
 -- of graph words that 12 takes

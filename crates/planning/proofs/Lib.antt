@@ -1,3 +1,4 @@
 pub mod Planning
 pub mod StoreAfter
 pub mod PlanValues
+pub mod Told

@@ -18,7 +18,8 @@ use Rattle.scans.specs.declared.scan.Place.{Place}
 use Rattle.scans.specs.declared.scan.Place.the-variants.{Reading as ReadingAt, Ended as HasEnded}
 use Rattle.scans.specs.declared.scan.Scan.{Scan}
 use Rattle.scans.specs.List.{noList, listFrom, scanList}
-use Rattle.plans.specs.Run.{past, planRefusal, plannedRefusal, plannedList, RunsAlike}
+use Rattle.scans.specs.Scan.{past}
+use Rattle.plans.specs.Run.{planRefusal, plannedRefusal, plannedList, RunsAlike}
 use Rattle.scans.proofs.Entries.{part-is}
 use Rattle.scans.proofs.ListAnswers.{list-over, list-taken}
 use Rattle.plans.proofs.Running.{Taken, taken}

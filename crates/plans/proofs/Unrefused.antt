@@ -25,7 +25,8 @@ use Rattle.scans.specs.declared.scan.Place.{Place}
 use Rattle.scans.specs.declared.scan.Place.the-variants.{Reading as ReadingAt, Ended as HasEnded}
 use Rattle.scans.specs.declared.scan.Scan.{Scan}
 use Rattle.planning.specs.Plan.{planCall}
-use Rattle.plans.specs.Run.{planRefusal, runRefusal, runCall, past, plannedRefusal, plannedList}
+use Rattle.scans.specs.Scan.{past}
+use Rattle.plans.specs.Run.{planRefusal, runRefusal, runCall, plannedRefusal, plannedList}
 use Rattle.scans.specs.List.{noList, scanList}
 use Rattle.scans.proofs.ListAnswers.{list-past}
 

@@ -1,6 +1,6 @@
 -- The call that runs a text by a plan, and the one that scans a text by it (document 01; 12, 14, 15, 16). Definitions only.
 use mathlib.Core.Path.{_≡_}
-use mathlib.Core.Bool.{Bool, true, false, cond, not}
+use mathlib.Core.Bool.{true, false, cond, not}
 use mathlib.Core.List.{List}
 use mathlib.Core.Option.{none}
 use Prim.Native.Nat.{ℕ}
@@ -15,9 +15,8 @@ use Rattle.mask_store.specs.declared.MaskStore.{MaskStore}
 use Rattle.mask_store.specs.Masks.{takes}
 use Rattle.plan_rules.specs.Plan.{Settings, base, needs, planSize}
 use Rattle.plan_rules.specs.Run.{runFrom, rowsOf, run, isPlan}
-use Rattle.scans.specs.declared.scan.Place.{Place}
-use Rattle.scans.specs.declared.scan.Place.the-variants.{Reading as ReadingAt, Ended as HasEnded}
 use Rattle.scans.specs.declared.scan.Scan.{Scan}
+use Rattle.scans.specs.Scan.{past}
 use Rattle.scans.specs.List.{ScanList, noList, scanList}
 
 -- of graph words that 12 takes: 14, 15 and 14 again, or 0. "plan below 3 words a state"; "a run's plan, where 15 doesn't hold, not the one its graph
@@ -42,11 +41,6 @@ runCall set graph words store text =
     ]
 
 -- ---- `scan_planned`: what `scan_list` answers. "Lowest number first": an offset past the text, a 14, comes before 15, and an ended scan, 16, last.
-
--- 14: "scan offset past the text"
-abbrev pub past : List ℕ → Place → Bool
-past text (ReadingAt offset) = ltb (length text) offset
-past text HasEnded = false
 
 unfoldable pub plannedRefusal : Settings → List ℕ → List ℕ → MaskStore → List ℕ → Scan → ℕ
 plannedRefusal set graph words store text scan =

@@ -1,5 +1,5 @@
 -- The scan of a text by a graph (document 01, "The scan is a machine over a text and a graph"). Definitions only.
-use mathlib.Core.Bool.{true, false, cond}
+use mathlib.Core.Bool.{Bool, true, false, cond}
 use mathlib.Core.List.{List, [], _∷_}
 use mathlib.Core.Option.{none, some}
 use Prim.Native.Nat.{ℕ, _+_}
@@ -58,7 +58,15 @@ scanFrom g text offset =
       | false ↦ scannedBy offset (entryOf text offset (readGraph g (drop offset text)))
     ]
 
--- 14: "scan offset past the text"; 16: "the scan has already answered ended"
+-- 14: "scan offset past the text"
+abbrev pub past : List ℕ → Place → Bool
+past text (ReadingAt offset) = ltb (length text) offset
+past text HasEnded = false
+
+-- 16: "the scan has already answered ended"
+abbrev pub over : Place → Bool
+over (ReadingAt offset) = false
+over HasEnded = true
 
 abbrev pub scanAt : Graph → List ℕ → Place → Scanned
 scanAt g text (ReadingAt offset) =

@@ -1,6 +1,6 @@
 -- By the scan's place. Assumes nothing.
 use mathlib.Core.Path.{sym, ap}
-use Rattle.plans.specs.Run.{past}
+use Rattle.scans.specs.Scan.{past}
 use borrow.Author.Needs.{needs}
 use Rattle.plans.proofs.planned.reads_past.Statement.{statement}
 use Rattle.plans.proofs.planned.reads_past.Tie as tie
