@@ -8,3 +8,4 @@ pub mod Written
 pub mod Composed
 pub mod Building
 pub mod Images
+pub mod Told

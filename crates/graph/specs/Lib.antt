@@ -1,1 +1,2 @@
 pub mod New
+pub mod Told
