@@ -21,7 +21,8 @@ use Rattle.readings.proofs.Answering.{graph-answered}
 use Rattle.graph.proofs.ReadingsAlike.{returned-taken, tied-alike as graph-tied}
 use Rattle.mask_store.specs.declared.MaskStore.{MaskStore}
 use Rattle.mask_store.specs.Masks.{allowed}
-use Rattle.plan_rules.specs.Plan.{Settings, Sane, planOf, planSize, holdsPlan}
+use Rattle.plan_rules.specs.Plan.{Settings, base, Sane, planOf, planSize, holdsPlan}
+use Rattle.plan_rules.proofs.RunIsWalk.{base-sane}
 use Rattle.plan_rules.proofs.Again.{room-again, plan-taken, plan-long}
 use Rattle.plan_rules.proofs.OwnStore.{own-allowed, own-holds}
 use Rattle.planning.specs.declared.plan.PlanAnswer.the-variants.{Planned}
@@ -115,3 +116,10 @@ module _ (set : Settings) (sane : Sane set) (table graph errors : List ℕ) (c :
   told-alike clean buffer store added p other fine holds text bytes =
       let a = readings-alike clean text bytes in
       (ap readTold (a .graph-alike), ap readTold (a .run-alike buffer store added p other fine holds))
+
+-- ---- the same of the calls themselves, whose settings are document 01's: `new` was answered with counts; then what `read_table` answers of a clean table,
+-- `read_graph` answers of the words that `new` left, and `run` answers by the plan that `plan` left for them
+
+pub calls-alike : (table graph errors : List ℕ) (c : Counts) → newOf table graph errors .answer ≡ Made c → Clean (tableOf table)
+    → (text : List ℕ) → Bytes text → Alike base table (newOf table graph errors .graph) text
+calls-alike = readings-alike base base-sane
