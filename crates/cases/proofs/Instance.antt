@@ -27,7 +27,7 @@ use Rattle.plan_rules.proofs.RunIsWalk.{base-sane}
 use Rattle.planning.specs.declared.plan.PlanAnswer.the-variants.{Planned}
 use Rattle.planning.specs.Plan.{PlanCall, planCall}
 use Rattle.plans.specs.Run.{runCall}
-use Rattle.plans.proofs.Demand3.{readings-alike, own-alike}
+use Rattle.plans.proofs.Demand3.{own-alike, calls-alike}
 use Rattle.cases.specs.Answers.{costOf, refusalOf, graphOf}
 use Rattle.cases.specs.Table.{by, all, k1, k4}
 
@@ -172,7 +172,7 @@ elsewhere-holds = refl
 
 pub looped-elsewhere : (text : List ℕ) → Bytes text → runCall base looped-words (looped-call .buffer) elsewhere text ≡ tableRead looped text
 looped-elsewhere text bytes =
-    readings-alike base base-sane looped (replicate 1034 7) [] _ looped-made looped-clean text bytes
+    calls-alike looped (replicate 1034 7) [] _ looped-made looped-clean text bytes
     .run-alike (replicate 9 7) emptied 1 looped-planned elsewhere elsewhere-allowed elsewhere-holds
 
 -- ---- K4
