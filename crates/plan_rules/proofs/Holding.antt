@@ -29,12 +29,6 @@ module _ (set : Settings) (g : Graph) (store other : MaskStore) where
   abbrev holdsOne : Class → Bool
   holdsOne c = ltb (numberOf numbered c) (other .count) && sameClass (classAt (other .tables) (numberOf numbered c)) c
 
-  pub holds-means : holdsPlan set g store other ≡ true → (j : ℕ) → j < length (needs set g) → HeldAs numbered other (getD (needs set g) j [])
-  unfolding holdsPlan
-  holds-means h j l =
-      let q = and-both (ltb (numberOf numbered (getD (needs set g) j [])) (other .count)) _ (all-at holdsOne (needs set g) j [] h l) in
-      record { below-count = ltb-true _ _ (q .0); same-mask = same-eq _ _ (q .1) }
-
   pub holds-shown : ((j : ℕ) → j < length (needs set g) → HeldAs numbered other (getD (needs set g) j [])) → holdsPlan set g store other ≡ true
   unfolding holdsPlan
   holds-shown f = all-intro holdsOne (needs set g) [] (λ j l. one (getD (needs set g) j []) (f j l))
@@ -43,3 +37,9 @@ module _ (set : Settings) (g : Graph) (store other : MaskStore) where
       one c h =
           and-intro (ltb (numberOf numbered c) (other .count)) _ (lt-ltb _ _ (h .below-count))
           (ap (λ (d : Class). sameClass d c) (h .same-mask) ∙ same-self c)
+
+  pub holds-means : holdsPlan set g store other ≡ true → (j : ℕ) → j < length (needs set g) → HeldAs numbered other (getD (needs set g) j [])
+  unfolding holdsPlan
+  holds-means h j l =
+      let q = and-both (ltb (numberOf numbered (getD (needs set g) j [])) (other .count)) _ (all-at holdsOne (needs set g) j [] h l) in
+      record { below-count = ltb-true _ _ (q .0); same-mask = same-eq _ _ (q .1) }
