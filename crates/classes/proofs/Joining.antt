@@ -119,6 +119,12 @@ pub record Joining (rs : List Range) (first last holes except : List ℕ) (count
   pub ended : end ≡ endOf made
   pub parted : count + gaps ≡ i
 
+-- the same arrays and numbers
+pub joining-same : {rs : List Range} {first last holes except first′ last′ holes′ except′ : List ℕ} {count gaps end count′ gaps′ end′ i : ℕ}
+    → first′ ≡ first → last′ ≡ last → holes′ ≡ holes → except′ ≡ except → count′ ≡ count → gaps′ ≡ gaps → end′ ≡ end
+    → Joining rs first last holes except count gaps end i → Joining rs first′ last′ holes′ except′ count′ gaps′ end′ i
+joining-same a b c d e f g p = rw (a, b, c, d, e, f, g) p
+
 pub joining-none : (rs : List Range) → let zeros : List ℕ = replicate 128 0 in Joining rs zeros zeros zeros zeros 0 0 256 0
 joining-none rs = record { made = []; laid = laid-none; whole = refl; ended = refl; parted = refl }
 

@@ -3,6 +3,7 @@ use mathlib.Core.Path.{_≡_, refl, sym}
 use mathlib.Core.Bool.{true, false, _||_}
 use mathlib.Core.List.{List, [], _∷_}
 use Prim.Native.Nat.{ℕ, zero, suc, _+_, _-_, _≤_, _<_, min}
+use native.Mathlib.Nat.{zero-min, min-zero, suc-min-suc}
 use native.Mathlib.Numerals.{add-one}
 use native.Mathlib.Omega.{arith}
 use borrow.Author.Tests.{eq-eqb, ne-eqb}
@@ -14,18 +15,14 @@ use Rattle.classes.specs.ClassAnswers.{listed}
 -- ---- no more is taken or dropped than there is
 
 take-capped : (n : ℕ) (l : List ℕ) → take n l ≡ take (min n (length l)) l
-take-capped zero l = let e : min zero (length l) ≡ 0 = omega arith in rw e
-take-capped (suc n) [] = let e : min (suc n) 0 ≡ 0 = omega arith in rw e
-take-capped (suc n) (x ∷ l) =
-    let e : min (suc n) (suc (length l)) ≡ suc (min n (length l)) = omega arith in
-    rw (e, ← take-capped n l)
+take-capped zero l = rw (zero-min (length l))
+take-capped (suc n) [] = rw (min-zero (suc n))
+take-capped (suc n) (x ∷ l) = rw (suc-min-suc n (length l), ← take-capped n l)
 
 drop-capped : (n : ℕ) (l : List ℕ) → drop n l ≡ drop (min n (length l)) l
-drop-capped zero l = let e : min zero (length l) ≡ 0 = omega arith in rw e
-drop-capped (suc n) [] = let e : min (suc n) 0 ≡ 0 = omega arith in rw e
-drop-capped (suc n) (x ∷ l) =
-    let e : min (suc n) (suc (length l)) ≡ suc (min n (length l)) = omega arith in
-    rw (e, ← drop-capped n l)
+drop-capped zero l = rw (zero-min (length l))
+drop-capped (suc n) [] = rw (min-zero (suc n))
+drop-capped (suc n) (x ∷ l) = rw (suc-min-suc n (length l), ← drop-capped n l)
 
 -- ---- the exceptions, one after another
 
@@ -43,13 +40,17 @@ excepted-none xs b j h = rw (drop-of-length-le xs h)
 
 -- no more than each list has
 pub listed-least : (n : ℕ) (fs ls hs xs : List ℕ) → listed n fs ls hs xs ≡ listed (min n (min (length fs) (min (length ls) (length hs)))) fs ls hs xs
-listed-least zero fs ls hs xs = let e : min zero (min (length fs) (min (length ls) (length hs))) ≡ 0 = omega arith in rw e
-listed-least (suc n) [] ls hs xs = let e : min (suc n) (min 0 (min (length ls) (length hs))) ≡ 0 = omega arith in rw e
-listed-least (suc n) (f ∷ fs) [] hs xs = let e : min (suc n) (min (suc (length fs)) (min 0 (length hs))) ≡ 0 = omega arith in rw e
-listed-least (suc n) (f ∷ fs) (l ∷ ls) [] xs = let e : min (suc n) (min (suc (length fs)) (min (suc (length ls)) 0)) ≡ 0 = omega arith in rw e
+listed-least zero fs ls hs xs = rw (zero-min (min (length fs) (min (length ls) (length hs))))
+listed-least (suc n) [] ls hs xs = rw (zero-min (min (length ls) (length hs)), min-zero (suc n))
+listed-least (suc n) (f ∷ fs) [] hs xs = rw (zero-min (length hs), min-zero (suc (length fs)), min-zero (suc n))
+listed-least (suc n) (f ∷ fs) (l ∷ ls) [] xs = rw (min-zero (suc (length ls)), min-zero (suc (length fs)), min-zero (suc n))
 listed-least (suc n) (f ∷ fs) (l ∷ ls) (h ∷ hs) xs =
-    let e : min (suc n) (min (suc (length fs)) (min (suc (length ls)) (suc (length hs)))) ≡ suc (min n (min (length fs) (min (length ls) (length hs)))) = omega arith in
-    rw (e, ← listed-least n fs ls hs (drop h xs))
+    rw (
+      suc-min-suc (length ls) (length hs),
+      suc-min-suc (length fs) (min (length ls) (length hs)),
+      suc-min-suc n (min (length fs) (min (length ls) (length hs))),
+      ← listed-least n fs ls hs (drop h xs),
+    )
 
 module _ (fs ls hs xs : List ℕ) where
   listed-next : (n i at : ℕ) → i < n → n ≤ length fs → n ≤ length ls → n ≤ length hs

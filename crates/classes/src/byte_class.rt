@@ -5,6 +5,7 @@
 ghost use mathlib.Core.Path.{_≡_};
 ghost use mathlib.Core.Bool.{cond};
 ghost use Prim.Native.Nat.{_≤_, min};
+ghost use lib.ListN.{length};
 ghost use Rattle.classes.specs.Classes.{ranges, comparisons, holds, someHolds, opsOf, cost};
 ghost use Rattle.classes.specs.ClassAnswers.{asByteClass, asComparisons, listed};
 
@@ -164,6 +165,31 @@ fn least(a: usize, b: usize) -> usize
     if a < b { a } else { b }
 }
 
+// Whether one of the n comparisons that the slices list holds of the byte.
+fn some_listed<'a>(
+    first: &'a [u8],
+    last: &'a [u8],
+    holes: &'a [u8],
+    except: &'a [u8],
+    n: usize,
+    byte: u8,
+) -> bool
+    requires { ⌜ n ≤ length (now first) ⌝ }
+    requires { ⌜ n ≤ length (now last) ⌝ }
+    requires { ⌜ n ≤ length (now holes) ⌝ }
+    ensures { λ r. ⌜ r ≡ someHolds (listed n (now (first .entry)) (now (last .entry)) (now (holes .entry)) (now (except .entry))) byte ⌝ }
+{
+    let mut at: usize = 0;
+    for i in 0..n {
+        let end = least(at + holes[i] as usize, except.len());
+        if holds(first[i], last[i], &except[at..end], byte) {
+            return true;
+        }
+        at = end;
+    }
+    false
+}
+
 // Whether one of `count` comparisons holds of the byte. The slices are the arrays of `Comparisons`, lent one by one, or parts of longer ones.
 pub fn some_holds<'a>(
     first: &'a [u8],
@@ -176,13 +202,5 @@ pub fn some_holds<'a>(
     ensures { λ r. ⌜ r ≡ someHolds (listed count (now (first .entry)) (now (last .entry)) (now (holes .entry)) (now (except .entry))) byte ⌝ }
 {
     let n = least(count, least(first.len(), least(last.len(), holes.len())));
-    let mut at: usize = 0;
-    for i in 0..n {
-        let end = least(at + holes[i] as usize, except.len());
-        if holds(first[i], last[i], &except[at..end], byte) {
-            return true;
-        }
-        at = end;
-    }
-    false
+    some_listed(first, last, holes, except, n, byte)
 }

@@ -19,6 +19,14 @@ use Rattle.legal.proofs.Steps.{Found, found-start, found-below, found-step, rea
 use Rattle.reach.proofs.reached.Statement.{statement}
 use Rattle.reach.proofs.reached.Tie as tie
 
+-- one state marked, and alone on the stack; of any size, so that no list of 1,024 is written out
+begun : (tgt : ℕ → ℕ → ℕ) (cap : ℕ) (Good : ℕ → Type 0) (s : ℕ) → s < cap → Good s
+    → let marked = set (replicate cap false) s true in Work tgt 257 cap Good (λ k. ⊥) marked (set (replicate cap 0) 0 s) 1 × In marked s
+begun tgt cap Good s h g = (
+  single tgt 257 cap Good (replicate cap 0) (omega (arith, length-replicate {A = ℕ} cap 0)) s h g,
+  getD-set-same (replicate cap false) s true false (omega (arith, length-replicate cap false)),
+)
+
 abbrev Inv-loop2 : tie.InvT-loop2
 Inv-loop2 table start m out₀ stack₀ top₀ s c₀ out stack top c =
     Work (targetWord table) 257 1024 (Found table start) (λ k. k ≡ s) out stack top
@@ -96,11 +104,8 @@ array-write-stack c = omega arith
 loop-holds : tie.Need-loop-holds Inv-loop2 μ-loop2 Inv-loop μ-loop
 loop-holds c =
     let a = c .before .before in
-    let z = sized a in (
-      single (targetWord (words a)) 257 1024 (Found (words a) (a .args .start)) (replicate 1024 0) (omega (arith, length-replicate {A = ℕ} 1024 0)) (a .args .start) (omega arith)
-          (found-start (words a) (a .pre .0) (a .args .start) (a .pre .1)),
-      getD-set-same (replicate 1024 false) (a .args .start) true false (omega (arith, length-replicate 1024 false)),
-    )
+    let z = sized a in
+    begun (targetWord (words a)) 1024 (Found (words a) (a .args .start)) (a .args .start) (omega arith) (found-start (words a) (a .pre .0) (a .args .start) (a .pre .1))
 
 sub-top : tie.Need-sub-top Inv-loop2 μ-loop2 Inv-loop μ-loop
 sub-top c = omega arith

@@ -134,6 +134,11 @@ same-length c =
     let z = c .before .before .zero .kept .0 in
     omega arith
 
+-- zeros written between places that are computed are those written between the places themselves
+zeroed : (graph : List ℕ) {out whole : List ℕ} {a b a′ b′ : ℕ} → a ≡ a′ → b ≡ b′ → out ≡ sets graph a (replicate (b - a) 0)
+    → sets graph a′ (replicate (b′ - a′) 0) ≡ whole → out ≡ whole
+zeroed graph e f made rest = made ∙ (λ i. sets graph (e i) (replicate (f i - e i) 0)) ∙ rest
+
 returns : tie.Need-returns Inv-loop μ-loop
 returns c =
     let at = c .before .before .before .before .before .before .before in
@@ -149,10 +154,9 @@ returns c =
     let from : c .before .before .before .before .place .result ≡ graphPlace (l .k) 0 = omega arith in
     let to : c .before .before .before .place2 .result ≡ graphPlace n 0 = omega arith in (
       written .number ∙ sym (states-are (words at) (a .pre .0) (a .args .start) (a .pre .1 .0) (reach at) (a .pre .1 .1 .0)),
-      c .before .before .zero .ensures
-          ∙ (λ i. sets (l .graph) (from i) (replicate (to i - from i) 0))
-          ∙ written-all (words at) (a .pre .0) (a .args .start) (a .pre .1 .0) (reach at) (a .pre .1 .1 .0) (a .args .graph .now) (l .graph) (l .k) head root
-          head-is (new-is at (a .args .start) (omega arith)) (omega arith) written,
+      zeroed (l .graph) from to (c .before .before .zero .ensures)
+          (written-all (words at) (a .pre .0) (a .args .start) (a .pre .1 .0) (reach at) (a .pre .1 .1 .0) (a .args .graph .now) (l .graph) (l .k) head root
+          head-is (new-is at (a .args .start) (omega arith)) (omega arith) written),
     )
 
 pub write-spec : {M : Type 1} → statement M

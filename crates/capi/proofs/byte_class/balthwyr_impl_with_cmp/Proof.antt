@@ -30,7 +30,7 @@ returns c =
     let cmp = made .impl-with-cmp .ensures .0 in
     let bytes = laid .cmp-bytes .ensures in
     let stored = put .put-counted .ensures in
-    (cc, cc)
+    (rw (← class, ← cmp, ← bytes) (stored .0), rw (← class, ← cmp, ← bytes) (stored .1))
 
 pub balthwyr-impl-with-cmp-spec : {M : Type 1} → statement M
 balthwyr-impl-with-cmp-spec =

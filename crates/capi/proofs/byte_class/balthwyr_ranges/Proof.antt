@@ -30,7 +30,7 @@ returns c =
     let ranges = made .ranges .ensures .0 in
     let bytes = laid .joined .ensures in
     let stored = put .put-counted .ensures in
-    (cc, cc)
+    (rw (← class, ← ranges, ← bytes) (stored .0), rw (← class, ← ranges, ← bytes) (stored .1))
 
 pub balthwyr-ranges-spec : {M : Type 1} → statement M
 balthwyr-ranges-spec =

@@ -23,7 +23,7 @@ added c =
     let class = c .before .flags-of .ensures in
     let made = c .add-by-loan .ensures in
     let e = add-to tables (st .args .count .now) (flagsOf (st .args .flags .now)) (c .before .before .before .before .before .if1 .left) in
-    cc
+    rw (e, ← held, ← class) made
 
 size : (c : tie.After-add-by-loan) → length (c .add-by-loan .result .store .tables) ≡ 2048
 size c =

@@ -21,7 +21,7 @@ planned : (c : tie.After-plan-by-loan)
 planned c =
     let held = c .before .before .store-in .ensures in
     let made = c .plan-by-loan .ensures in
-    (cc, cc)
+    (rw (← held) (made .0), rw (← held) (made .1))
 
 size : (c : tie.After-plan-by-loan) → length (c .before .before .before .before .before .before .before .before .args .tables .now) ≡ 2048
     → length (c .plan-by-loan .result .store .tables) ≡ 2048

@@ -21,7 +21,7 @@ returns c =
     let read = ran .run .ensures in
     let held = ran .before .store-in .ensures in
     let stored = c .store .ensures in
-    cc
+    rw (e, ← held, ← read) stored
 
 pub balthwyr-run-spec : {M : Type 1} → statement M
 balthwyr-run-spec = tie.close (tie.spec store-in-requires run-requires store-requires returns)

@@ -25,7 +25,7 @@ returns c =
     let listed = made .scan-list .ensures in
     let number = c .before .before .number-of .ensures in
     let stored = c .store-list .ensures in
-    (cc, (cc, cc))
+    (rw (← from, ← listed .0) stored, (rw (← from, ← listed .0) number, rw (← from) (listed .1)))
 
 pub balthwyr-scan-list-spec : {M : Type 1} → statement M
 balthwyr-scan-list-spec =

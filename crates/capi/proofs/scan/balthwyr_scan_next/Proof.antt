@@ -22,7 +22,7 @@ returns c =
     let next = numbered .before .next .ensures in
     let number = numbered .number-of .ensures in
     let stored = c .store .ensures in
-    (cc, cc)
+    (rw (← from, ← next) stored, rw (← from, ← next) number)
 
 pub balthwyr-scan-next-spec : {M : Type 1} → statement M
 balthwyr-scan-next-spec = tie.close (tie.spec scan-of-requires next-requires number-of-requires store-requires returns)

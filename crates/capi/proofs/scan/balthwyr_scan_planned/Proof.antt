@@ -34,7 +34,7 @@ returns c =
     let held = made .before .before .before .before .store-in .ensures in
     let number = c .before .before .number-of .ensures in
     let stored = c .store-list .ensures in
-    (cc, (cc, cc))
+    (rw (e, ← held, ← from, ← listed .0) stored, (rw (e, ← held, ← from, ← listed .0) number, rw (e, ← held, ← from) (listed .1)))
 
 pub balthwyr-scan-planned-spec : {M : Type 1} → statement M
 balthwyr-scan-planned-spec =

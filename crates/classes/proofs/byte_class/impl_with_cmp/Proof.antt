@@ -2,16 +2,16 @@
 -- the ranges. Assumes nothing.
 use borrow.Author.Needs.{needs}
 use mathlib.Core.Logic.{⊎-elim}
-use mathlib.Core.Path.{_≡_}
+use mathlib.Core.Path.{_≡_, refl}
 use mathlib.Core.List.{_∷_}
-use Prim.Native.Nat.{suc, _-_, _≤_}
+use Prim.Native.Nat.{suc, _-_, _≤_, _<_}
 use native.Mathlib.Omega.{arith}
 use lib.ListN.{getD, drop}
 use mir.Syntax.{w8}
 use mir.Val.{Fits}
 use Rattle.classes.specs.Classes.{Range, ranges, comparisons}
 use Rattle.classes.proofs.Answers.{held-count, held-next}
-use Rattle.classes.proofs.Joining.{Joining, joining-none, joining-alone, joining-latest, joining-longer, joining-end}
+use Rattle.classes.proofs.Joining.{Joining, joining-same, joining-none, joining-alone, joining-latest, joining-longer, joining-end}
 use Rattle.classes.proofs.byte_class.impl_with_cmp.Statement.{statement}
 use Rattle.classes.proofs.byte_class.impl_with_cmp.Tie as tie
 
@@ -109,14 +109,18 @@ loop-again c =
     let at = c .before .before .before .before in
     let p = at .loop .inv .3 in
     let r : Range = this (c .before) in
-    let byte : Fits w8 (r .first) = search needs in
-    let byte-last : Fits w8 (r .last) = search needs in (
+    let follows = next (c .before) in
+    let fits : Fits w8 (r .first) = search needs in
+    let fits-last : Fits w8 (r .last) = search needs in
+    let byte : r .first < 256 = omega arith in
+    let room : at .loop .i < 128 = omega arith in
+    let free : at .loop .count < 128 = omega arith in (
       omega arith,
       omega arith,
       omega arith,
       ⊎-elim
-          (λ w. rw (w .1, w .2, w .3, w .4, w .5, w .6) (joining-longer r (next (c .before)) p (w .0 .taken) (omega arith) (omega arith)))
-          (λ w. rw (w .1, w .2, w .3, w .4, w .5, w .6) (joining-alone r (next (c .before)) p (w .0 .left) (omega arith)))
+          (λ w. joining-same (w .1) (w .2) (w .3) (w .4) (w .5) (w .6) refl (joining-longer r follows p (w .0 .taken) byte room))
+          (λ w. joining-same (w .1) (w .2) (w .3) (w .4) (w .5) (w .6) refl (joining-alone r follows p (w .0 .left) free))
           (c .if1 .came),
     )
 
