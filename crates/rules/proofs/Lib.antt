@@ -9,6 +9,7 @@ pub mod Shape
 pub mod Alike
 pub mod Unpruned
 pub mod Reached
+pub mod FromRoot
 pub mod Fits
 pub mod Words
 pub mod Flat
