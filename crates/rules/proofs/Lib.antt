@@ -14,4 +14,5 @@ pub mod Fits
 pub mod Words
 pub mod Flat
 pub mod Taken
+pub mod Cleanness
 pub mod Promises
