@@ -10,16 +10,16 @@ use lib.Dec.{eqb, leb, ltb}
 use lib.ListN.{length, drop, replicate, length-drop}
 use Rattle.lists.proofs.Bools.{Is, yes-is, no-is, is, and-both}
 use Rattle.rules.specs.Graph.{graphFrom, graphFits}
-use Rattle.graph.specs.declared.read.Read.{Read}
-use Rattle.graph.specs.declared.read.Read.the-variants.{Refused}
+use Rattle.readings.specs.declared.read.Read.{Read}
+use Rattle.readings.specs.declared.read.Read.the-variants.{Refused}
 use Rattle.classes.specs.Classes.{Class}
 use Rattle.mask_store.specs.declared.MaskStore.{MaskStore}
 use Rattle.mask_store.specs.Masks.{storeOf, held, heldWith, grown, allowed, takes}
 use Rattle.mask_store.proofs.Growth.{length-all}
 use Rattle.plan_rules.specs.Plan.{base, needs, planSize}
-use Rattle.plans.specs.declared.scan.Scan.{Scan}
-use Rattle.plans.specs.List.{ScanList, noList}
-use Rattle.plans.specs.Plan.{PlanCall, planTold, noPlan, planCall}
+use Rattle.scans.specs.declared.scan.Scan.{Scan}
+use Rattle.scans.specs.List.{ScanList, noList}
+use Rattle.planning.specs.Plan.{PlanCall, planTold, noPlan, planCall}
 use Rattle.plans.specs.Run.{planRefusal, runRefusal, runCall, past, plannedRefusal, plannedList}
 use Rattle.capi.specs.Stores.{isStore, storeIn}
 use Rattle.capi.specs.Plans.{noStore, noStoreScan, planIn, runIn, listIn}

@@ -6,13 +6,13 @@ use Prim.Native.Nat.{ℕ}
 use lib.Dec.{ltb}
 use lib.ListN.{length}
 use Rattle.rules.specs.Graph.{graphFrom, graphFits}
-use Rattle.graph.specs.declared.read.Read.{Read}
-use Rattle.graph.specs.declared.read.Read.the-variants.{Refused}
+use Rattle.readings.specs.declared.read.Read.{Read}
+use Rattle.readings.specs.declared.read.Read.the-variants.{Refused}
 use Rattle.mask_store.specs.Masks.{storeOf}
 use Rattle.plan_rules.specs.Plan.{base, planSize}
-use Rattle.plans.specs.declared.scan.Scan.{Scan}
-use Rattle.plans.specs.List.{ScanList, noList}
-use Rattle.plans.specs.Plan.{PlanCall, noPlan, planCall}
+use Rattle.scans.specs.declared.scan.Scan.{Scan}
+use Rattle.scans.specs.List.{ScanList, noList}
+use Rattle.planning.specs.Plan.{PlanCall, noPlan, planCall}
 use Rattle.plans.specs.Run.{runCall, past, plannedList}
 use Rattle.capi.specs.Stores.{isStore}
 

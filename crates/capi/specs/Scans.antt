@@ -3,10 +3,10 @@
 use mathlib.Core.Bool.{cond}
 use Prim.Native.Nat.{ℕ, _-_, _^_}
 use lib.Dec.{eqb}
-use Rattle.plans.specs.declared.scan.Place.{Place}
-use Rattle.plans.specs.declared.scan.Place.the-variants.{Reading, Ended}
-use Rattle.plans.specs.declared.scan.Scan.{Scan}
-use Rattle.plans.specs.Scan.{readingAt, hasEnded}
+use Rattle.scans.specs.declared.scan.Place.{Place}
+use Rattle.scans.specs.declared.scan.Place.the-variants.{Reading, Ended}
+use Rattle.scans.specs.declared.scan.Scan.{Scan}
+use Rattle.scans.specs.Scan.{readingAt, hasEnded}
 
 abbrev pub ended : ℕ
 ended = 2 ^ 64 - 1

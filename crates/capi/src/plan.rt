@@ -2,7 +2,7 @@
 ghost use mathlib.Core.Path.{_≡_};
 ghost use mathlib.Core.List.{[], _∷_};
 ghost use Rattle.lists.specs.Told.{Told};
-ghost use Rattle.plans.specs.Plan.{planTold};
+ghost use Rattle.planning.specs.Plan.{planTold};
 ghost use Rattle.capi.specs.Plans.{planIn};
 use plans::plan::PlanAnswer;
 

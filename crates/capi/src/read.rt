@@ -2,7 +2,7 @@
 ghost use mathlib.Core.Path.{_≡_};
 ghost use mathlib.Core.List.{[], _∷_};
 ghost use Rattle.lists.specs.Told.{Told};
-ghost use Rattle.graph.specs.Answers.{readTold, graphRead, tableRead};
+ghost use Rattle.readings.specs.Answers.{readTold, graphRead, tableRead};
 ghost use Rattle.capi.specs.Plans.{runIn};
 use graph::read::Read;
 

@@ -2,8 +2,8 @@
 ghost use mathlib.Core.Path.{_≡_};
 ghost use mathlib.Core.List.{[], _∷_};
 ghost use Rattle.lists.specs.Told.{Told};
-ghost use Rattle.plans.specs.Scan.{scanTold, next};
-ghost use Rattle.plans.specs.List.{listTold, scanList};
+ghost use Rattle.scans.specs.Scan.{scanTold, next};
+ghost use Rattle.scans.specs.List.{listTold, scanList};
 ghost use Rattle.capi.specs.Plans.{listIn};
 ghost use Rattle.capi.specs.Scans.{scanOf, numberOf};
 use plans::list::ListAnswer;

@@ -16,7 +16,7 @@ use Rattle.rules.specs.Table.{Table, tableOf, step, rowOf}
 use Rattle.rules.specs.Build.{build, emptyLeaves, chain, leafOf}
 use Rattle.rules.specs.Graph.{graphBuffer, stateFrom, graphFrom, graphFits}
 use Rattle.rules.specs.Read.{Bytes, Orderly, Clean}
-use Rattle.graph.specs.Answers.{tableRead}
+use Rattle.readings.specs.Answers.{tableRead}
 use Rattle.graph.specs.New.{conflicts, wrote, wroteOr9, writtenOr, newOf}
 use Rattle.graph.specs.declared.new.Answer.the-variants.{Built as Made}
 use Rattle.mask_store.specs.declared.MaskStore.{MaskStore}
@@ -24,8 +24,8 @@ use Rattle.mask_store.specs.Masks.{tableAt, classAt, held, written, heldWith, g
 use Rattle.edges.specs.Edges.{classTo, leadsTo, targets}
 use Rattle.plan_rules.specs.Plan.{base, byTable, wayTo, selfNeeds, edgeNeeds, stateNeeds, needs, selfWord, edgeWords, planRow, planWords, planOf}
 use Rattle.plan_rules.proofs.RunIsWalk.{base-sane}
-use Rattle.plans.specs.declared.plan.PlanAnswer.the-variants.{Planned}
-use Rattle.plans.specs.Plan.{PlanCall, planCall}
+use Rattle.planning.specs.declared.plan.PlanAnswer.the-variants.{Planned}
+use Rattle.planning.specs.Plan.{PlanCall, planCall}
 use Rattle.plans.specs.Run.{runCall}
 use Rattle.plans.proofs.Demand3.{own-alike}
 use Rattle.cases.specs.Answers.{costOf, refusalOf, graphOf}

@@ -5,17 +5,17 @@ use Prim.Native.Nat.{ℕ, zero, suc, _/_, _%_}
 use Rattle.lists.specs.Sets.{closure, round, rounds}
 use Rattle.lists.specs.Told.{Told}
 use Rattle.classes.specs.Classes.{Class, ranges, comparisons, cost}
-use Rattle.pattern.specs.Utf8.{lines, divided, codePoints}
-use Rattle.pattern.specs.Tree.{recordOf, treeOf, chainFrom, chainAt, treeAt, root, rules, ruleOf, fieldsFit, recordFits, named, treeFits}
+use Rattle.utf8.specs.Utf8.{lines, divided, codePoints}
+use Rattle.trees.specs.Tree.{recordOf, treeOf, chainFrom, chainAt, treeAt, root, rules, ruleOf, fieldsFit, recordFits, named, treeFits}
 use Rattle.pattern.specs.Priority.{priority, valueAt, tooHigh, priorityOf, priorityTold}
 use Rattle.rules.specs.Table.{tableOf, refusal, conditions, matchFits, size, rowOf, step, leafAt, matchOf, countsFit, emptiesFit, targetsFit, headsFit, recordsFit}
 use Rattle.rules.specs.Graph.{stateOf, to, acceptOf, earlyOf, leads, same, stateWords, graphWords, stateFrom, graphFrom, graphFits}
 use Rattle.rules.specs.Build.{errorWords, build, emptyLeaves, unpruned, merged, mergesNone, mergeRound, pruned, kept, withCleared, cleared, covered, withEarly, children, wholeGraph, firstState, ties, leafOf, contenders, chain, restrict, relabel, renamed, reached}
 use Rattle.rules.specs.Read.{readTable, readGraph, tableWalker, graphWalker}
-use Rattle.graph.specs.Answers.{readTold, tableRead, graphRead}
+use Rattle.readings.specs.Answers.{readTold, tableRead, graphRead}
 use Rattle.graph.specs.New.{conflicts, wrote, wroteOr9, writtenOr, newOf, imageOf}
-use Rattle.plans.specs.declared.scan.Scan.{Scan}
-use Rattle.plans.specs.Scan.{fresh, gapLength, next, scanTold}
+use Rattle.scans.specs.declared.scan.Scan.{Scan}
+use Rattle.scans.specs.Scan.{fresh, gapLength, next, scanTold}
 use Rattle.edges.specs.Edges.{classTo, leadsTo, targets}
 use Rattle.display.specs.Text.{decimal}
 use Rattle.display.specs.Display.{letterOf, escaped, rangeText, classText, firstLine, edgeLine, stateText, displayed, lineOf, conflictLine}

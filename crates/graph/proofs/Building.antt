@@ -13,7 +13,7 @@ use Rattle.rules.specs.Table.{Table, tableOf, refusal, size}
 use Rattle.rules.specs.Graph.{Graph, graphWords, graphBuffer}
 use Rattle.rules.specs.Build.{Built, noUniversalStart, emptyMatch, errorWords, emptyLeaves, noStates, reached, ties, buildFrom, build}
 use Rattle.rules.proofs.Shape.{size-is}
-use Rattle.table.specs.Listed.{listed}
+use Rattle.conflicts.specs.Listed.{listed}
 use Rattle.graph.specs.declared.new.Answer.the-variants.{Built as Made}
 use Rattle.graph.specs.New.{refusedBy, conflicts, wroteOr9, writtenOr, newOf}
 use Rattle.graph.proofs.Written.{short, enough}

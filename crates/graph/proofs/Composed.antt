@@ -11,7 +11,7 @@ use Rattle.rules.specs.Build.{reached, restrict, wholeGraph, withEarly, withCle
 use Rattle.rules.proofs.Fits.{Fits, first-fits, early-fits, cleared-fits, pruned-fits, pruned-few, merged-fits, merged-few}
 use Rattle.rules.proofs.Marks.{early-length, cleared-length}
 use Rattle.rules.proofs.Shape.{few-states, few-leaves}
-use Rattle.table.specs.Renumbering.{firstGraph}
+use Rattle.rows.specs.Renumbering.{firstGraph}
 use Rattle.graph.proofs.Stages.{Stage, stage-next}
 
 -- words that a rule has written over the words w

@@ -1,6 +1,3 @@
-pub mod Turn
-pub mod Answering
-pub mod TableTurn
 pub mod Outcomes
 pub mod ReadingsAlike
 pub mod AllReached

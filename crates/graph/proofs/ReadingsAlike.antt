@@ -11,12 +11,12 @@ use Rattle.rules.specs.Graph.{graphFrom, graphFits}
 use Rattle.rules.specs.Build.{emptyLeaves}
 use Rattle.rules.specs.Read.{Bytes, Orderly, Clean, Reading}
 use Rattle.rules.proofs.Promises.{built-taken, clean-no-empty, words-alike}
-use Rattle.graph.specs.declared.read.Read.{Read}
+use Rattle.readings.specs.declared.read.Read.{Read}
 use Rattle.graph.specs.declared.new.Counts.{Counts}
 use Rattle.graph.specs.declared.new.Answer.the-variants.{Built as Made}
-use Rattle.graph.specs.Answers.{reading, readTold, tableRead, graphRead}
+use Rattle.readings.specs.Answers.{reading, readTold, tableRead, graphRead}
 use Rattle.graph.specs.New.{newOf}
-use Rattle.graph.proofs.Answering.{graph-answered, table-answered}
+use Rattle.readings.proofs.Answering.{graph-answered, table-answered}
 use Rattle.graph.proofs.Outcomes.{answered, words-first}
 
 module _ (table graph errors : List ℕ) (c : Counts) (made : newOf table graph errors .answer ≡ Made c) where

@@ -9,7 +9,7 @@ use lib.ListN.{length, getD, drop, replicate}
 use Rattle.rules.specs.Graph.{Graph, graphWords, graphBuffer, graphFrom, graphFits}
 use Rattle.rules.proofs.Fits.{Fits}
 use Rattle.rules.proofs.Words.{graph-back, words-taken}
-use Rattle.rewrite.proofs.Buffers.{written-over}
+use Rattle.words.proofs.Buffers.{written-over}
 
 -- words w hold graph g, of a table of n states; `found` is what was lent
 pub record Stage (m n : ℕ) (found : List ℕ) (g : Graph) (w : List ℕ) : Type 0 where

@@ -17,7 +17,7 @@ use Rattle.rules.specs.Table.{tableOf, refusal, leafAt}
 use Rattle.rules.specs.Graph.{graphWords, graphBuffer}
 use Rattle.rules.specs.Build.{Error, Built, emptyMatch, errorWords, emptyLeaves, noStates}
 use Rattle.rules.proofs.Shape.{few-leaves}
-use Rattle.table.specs.Listed.{listed}
+use Rattle.conflicts.specs.Listed.{listed}
 use Rattle.graph.specs.declared.new.Counts.{Counts}
 use Rattle.graph.specs.declared.new.Answer.the-variants.{Built as Made, Refused}
 use Rattle.graph.specs.New.{Outcome, refusedBy, conflicts, countsOf, wrote, wroteOr9}

@@ -43,7 +43,7 @@ fn without_start(n: usize, graph: &mut [u16], errors: &mut [u16]) -> Answer
     if errors.len() < 2 {
         return Answer::Refused(9);
     }
-    table::ties::write_no_start(errors);
+    conflicts::write_no_start(errors);
     no_states(graph, n);
     Answer::Built(Counts {
         states: 0,
@@ -71,7 +71,7 @@ fn with_empty(
     if errors.len() < words {
         return Answer::Refused(9);
     }
-    table::ties::write_empty(table, errors);
+    conflicts::write_empty(table, errors);
     no_states(graph, n);
     Answer::Built(Counts {
         states: 0,
@@ -89,11 +89,11 @@ fn write_graph(table: &[u16], start: usize, set: &[bool; 1024], graph: &mut [u16
     requires { ⌜ 2 + 258 * getD (now table) 0 0 ≤ length (now graph) ⌝ }
     ensures { λ _. ⌜ now (graph .exit) ≡ graphBuffer (getD (now (table .entry)) 0 0) (merged (pruned (unpruned (tableOf (now (table .entry))) start)) .graph) ++ drop (2 + 258 * getD (now (table .entry)) 0 0) (now (graph .entry)) ⌝ }
 {
-    table::rows::write(table, start, set, graph);
-    rewrite::early::early(graph);
-    rewrite::clear::clear(graph);
-    rewrite::keep::prune(graph);
-    rewrite::merge::merge(graph);
+    rows::write(table, start, set, graph);
+    early::early(graph);
+    clear::clear(graph);
+    prune::prune(graph);
+    merge::merge(graph);
 }
 
 // Rules 2 to 8, from a start, where no leaf can match empty text.
@@ -110,12 +110,12 @@ fn with_states(
     requires { ⌜ 2 + 258 * n ≤ length (now graph) ⌝ }
     ensures { λ r. ⌜ record { answer = r; graph = now (graph .exit); errors = now (errors .exit) } ≡ wroteOr9 n (buildFrom (tableOf (now (table .entry))) (some start) []) (now (graph .entry)) (now (errors .entry)) ⌝ }
 {
-    let set = table::reach::reached(table, start);
-    let ties = table::ties::tie_words(table, &set);
+    let set = reach::reached(table, start);
+    let ties = conflicts::tie_words(table, &set);
     if errors.len() < ties.words {
         return Answer::Refused(9);
     }
-    table::ties::write_ties(table, &set, errors);
+    conflicts::write_ties(table, &set, errors);
     write_graph(table, start, &set, graph);
     let states = words::word(graph, 0);
     let root = words::word(graph, 1);
@@ -131,7 +131,7 @@ fn with_states(
 pub fn new(table: &[u16], graph: &mut [u16], errors: &mut [u16]) -> Answer
     ensures { λ r. ⌜ record { answer = r; graph = now (graph .exit); errors = now (errors .exit) } ≡ newOf (now (table .entry)) (now (graph .entry)) (now (errors .entry)) ⌝ }
 {
-    let refusal = table::check::check(table);
+    let refusal = legal::check(table);
     if refusal != 0 {
         return Answer::Refused(refusal as u8);
     }
@@ -143,7 +143,7 @@ pub fn new(table: &[u16], graph: &mut [u16], errors: &mut [u16]) -> Answer
     if start == 65535 {
         return without_start(n, graph, errors);
     }
-    let count = table::check::count_empty(table);
+    let count = legal::count_empty(table);
     if count != 0 {
         return with_empty(table, count, n, graph, errors);
     }

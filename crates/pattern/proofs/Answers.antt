@@ -6,18 +6,18 @@ use Prim.Native.Nat.{ℕ, _<_, _≤_}
 use native.Mathlib.Omega.{arith}
 use Rattle.lists.specs.Lists.{tab}
 use Rattle.lists.proofs.Bools.{Is, is, yes-is, no-is}
-use Rattle.pattern.specs.Utf8.{widthOf}
-use Rattle.pattern.specs.Tree.{Tree, count, treeAt, root, treeFits}
+use Rattle.utf8.specs.Utf8.{widthOf}
+use Rattle.trees.specs.Tree.{Tree, count, treeAt, root, treeFits}
 use Rattle.pattern.specs.Priority.{priority, greedyAll, tooHigh, priorityOf, greedyOf}
 use Rattle.pattern.specs.Priced.{passes, answer, priced}
-use Rattle.pattern.specs.Held.{Within}
+use Rattle.trees.specs.Held.{Within}
 use Rattle.pattern.specs.declared.values.Priced.{Priced}
 use Rattle.pattern.specs.declared.values.Priced.the-variants as priced-as
 use Rattle.pattern.specs.declared.PriorityAnswer.{PriorityAnswer}
 use Rattle.pattern.specs.declared.PriorityAnswer.the-variants as priority-answer
 use Rattle.pattern.specs.declared.GreedyAnswer.{GreedyAnswer}
 use Rattle.pattern.specs.declared.GreedyAnswer.the-variants as greedy-answer
-use Rattle.pattern.proofs.TreeLaws.{tree-rules}
+use Rattle.trees.proofs.TreeLaws.{tree-rules}
 use Rattle.pattern.proofs.TooHigh.{too-high}
 
 module _ (w bytes : List ℕ) where

@@ -8,12 +8,12 @@ use lib.Dec.{eqb}
 use lib.ListN.{length, getD, set, replicate, List·getD-eq-default, length-set, length-replicate, getD-replicate}
 use lib.Seq.{getD-set-same, getD-set-other}
 use Rattle.lists.proofs.Bools.{or-false, Order, order, less, equal, more}
-use Rattle.pattern.specs.Tree.{Tree, Chain, empty, done, part, firstOf, flag, count, recordOf, shapes, treeOf, chainAt, treeAt, root, treeFits}
+use Rattle.trees.specs.Tree.{Tree, Chain, empty, done, part, firstOf, flag, count, recordOf, shapes, treeOf, chainAt, treeAt, root, treeFits}
 use Rattle.pattern.specs.Priority.{isDot, greedyAll, someGreedy}
 use Rattle.pattern.specs.Greedy.{dotOf, parts, greedyPart}
-use Rattle.pattern.specs.declared.tree.Record.{Record}
-use Rattle.pattern.proofs.KindRules.{by-kind}
-use Rattle.pattern.proofs.TreeLaws.{RecordRules, tree-at, rules-of, child-there, tree-rules, chain-none, chain-part, first-child}
+use Rattle.trees.specs.declared.tree.Record.{Record}
+use Rattle.trees.proofs.KindRules.{by-kind}
+use Rattle.trees.proofs.TreeLaws.{RecordRules, tree-at, rules-of, child-there, tree-rules, chain-none, chain-part, first-child}
 
 -- ---- one record, as the code goes by its kind
 

@@ -4,16 +4,16 @@ use mathlib.Core.List.{List}
 use Prim.Native.Nat.{ℕ, _+_, _<_, _≤_}
 use native.Mathlib.Omega.{arith}
 use lib.ListN.{length, take, drop}
-use Rattle.pattern.specs.Utf8.{codePoints}
-use Rattle.pattern.specs.Tree.{Tree, firstOf, recordOf, treeOf, treeAt, chainAt}
+use Rattle.utf8.specs.Utf8.{codePoints}
+use Rattle.trees.specs.Tree.{Tree, firstOf, recordOf, treeOf, treeAt, chainAt}
 use Rattle.pattern.specs.Priority.{priority, literalValue}
 use Rattle.pattern.specs.Priced.{passes, priced, pricedSum, pricedLeast, capped, times}
-use Rattle.pattern.specs.Held.{Within}
-use Rattle.pattern.specs.declared.tree.Record.{Record}
+use Rattle.trees.specs.Held.{Within}
+use Rattle.trees.specs.declared.tree.Record.{Record}
 use Rattle.pattern.specs.declared.values.Priced.{Priced}
 use Rattle.pattern.specs.declared.values.Priced.the-variants.{Value}
 use Rattle.pattern.proofs.PricedLaws.{priced-literal, priced-repetition, priced-capture, priced-concat, priced-alternation, least-done}
-use Rattle.pattern.proofs.TreeLaws.{RecordRules, rules-of, literal-inside, child-there, chain-none, first-child, tree-at, tree-literal, tree-class, tree-concat, tree-alternation, tree-repetition, tree-capture, tree-empty, tree-look, zero-or}
+use Rattle.trees.proofs.TreeLaws.{RecordRules, rules-of, literal-inside, child-there, chain-none, first-child, tree-at, tree-literal, tree-class, tree-concat, tree-alternation, tree-repetition, tree-capture, tree-empty, tree-look, zero-or}
 
 -- ---- no record: the end of a chain
 

@@ -13,13 +13,13 @@ use Rattle.lists.specs.Lists.{those}
 use Rattle.lists.proofs.Bools.{Is, is, yes-is, no-is, or-left, or-right, or-false, lt-or-le}
 use Rattle.lists.proofs.Disjunctions.{or-neither, neither-or}
 use Rattle.lists.proofs.Intervals.{some-from, none-from, counted-from}
-use Rattle.pattern.specs.Tree.{Tree, Chain, empty, done, part, firstOf, count, recordOf, numbers, shapes, treeOf, chainAt, treeAt, root, named, treeFits}
+use Rattle.trees.specs.Tree.{Tree, Chain, empty, done, part, firstOf, count, recordOf, numbers, shapes, treeOf, chainAt, treeAt, root, named, treeFits}
 use Rattle.pattern.specs.Priority.{priority, limit, valueAt, tooHigh}
 use Rattle.pattern.specs.Priced.{passes, somePasses}
-use Rattle.pattern.specs.declared.tree.Record.{Record}
-use Rattle.pattern.proofs.KindRules.{by-kind}
+use Rattle.trees.specs.declared.tree.Record.{Record}
+use Rattle.trees.proofs.KindRules.{by-kind}
 use Rattle.pattern.proofs.PricedLaws.{within}
-use Rattle.pattern.proofs.TreeLaws.{zero-or, tree-rules, rules-of, child-there, child-none, named-by, chain-none, chain-part, first-child}
+use Rattle.trees.proofs.TreeLaws.{zero-or, tree-rules, rules-of, child-there, child-none, named-by, chain-none, chain-part, first-child}
 
 passes-above : (t : Tree) → limit < priority t → passes t ≡ true
 passes-above t h = go (is (passes t))

@@ -4,8 +4,8 @@ use mathlib.Core.List.{List, [], _∷_}
 use Prim.Native.Nat.{ℕ}
 use lib.Dec.{eqb}
 use lib.ListN.{getD}
-use Rattle.pattern.specs.Tree.{flag}
-use Rattle.pattern.specs.declared.tree.Record.{Record}
+use Rattle.trees.specs.Tree.{flag}
+use Rattle.trees.specs.declared.tree.Record.{Record}
 
 -- it is one of the six dots
 abbrev pub dotOf : Record → Bool

@@ -2,23 +2,23 @@
 //
 // The three functions call each other, and record numbers fall: a record's first child and the next of its chain are below it. A record is
 // worked out once, by the one that names it.
-use crate::tree::record_at;
-use crate::utf8::Points;
-use crate::utf8::code_points;
 use crate::values::Priced;
 use crate::values::added;
 use crate::values::cap;
 use crate::values::least_of;
 use crate::values::multiplied;
+use trees::tree::record_at;
+use utf8::Points;
+use utf8::code_points;
 ghost use mathlib.Core.Path.{_≡_};
 ghost use Prim.Native.Nat.{ℕ, _+_, _<_, _≤_};
 ghost use lib.ListN.{length, take, drop};
 ghost use Rattle.lists.specs.Lists.{tab};
-ghost use Rattle.pattern.specs.Utf8.{widthOf, codePoints};
-ghost use Rattle.pattern.specs.Tree.{treeAt, chainAt};
+ghost use Rattle.utf8.specs.Utf8.{widthOf, codePoints};
+ghost use Rattle.trees.specs.Tree.{treeAt, chainAt};
 ghost use Rattle.pattern.specs.Priority.{literalValue};
 ghost use Rattle.pattern.specs.Priced.{priced, pricedSum, pricedLeast, capped};
-ghost use Rattle.pattern.specs.Held.{Within};
+ghost use Rattle.trees.specs.Held.{Within};
 
 // The value of the literal of b bytes from a.
 fn literal_value(bytes: &[u8], widths: &[u8; 256], a: u32, b: u32) -> Priced

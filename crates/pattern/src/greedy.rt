@@ -1,8 +1,8 @@
 // The greedy test of one record: `has_greedy_all` of the Rust, where what its children told is at hand.
-use crate::tree::Record;
+use trees::tree::Record;
 ghost use mathlib.Core.Path.{_≡_};
 ghost use Prim.Native.Nat.{_<_};
-ghost use Rattle.pattern.specs.Tree.{flag};
+ghost use Rattle.trees.specs.Tree.{flag};
 ghost use Rattle.pattern.specs.Greedy.{dotOf, greedyPart};
 
 // Flag f, 1 or 2.

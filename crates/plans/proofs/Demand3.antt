@@ -12,20 +12,20 @@ use Rattle.rules.specs.Graph.{Graph, graphFrom}
 use Rattle.rules.specs.Build.{emptyLeaves}
 use Rattle.rules.specs.Read.{Bytes, Orderly, Clean, readGraph}
 use Rattle.rules.proofs.Promises.{clean-no-empty}
-use Rattle.graph.specs.declared.read.Read.the-variants.{Refused}
+use Rattle.readings.specs.declared.read.Read.the-variants.{Refused}
 use Rattle.graph.specs.declared.new.Counts.{Counts}
 use Rattle.graph.specs.declared.new.Answer.the-variants.{Built as Made}
-use Rattle.graph.specs.Answers.{reading, readTold, tableRead, graphRead}
+use Rattle.readings.specs.Answers.{reading, readTold, tableRead, graphRead}
 use Rattle.graph.specs.New.{newOf}
-use Rattle.graph.proofs.Answering.{graph-answered}
+use Rattle.readings.proofs.Answering.{graph-answered}
 use Rattle.graph.proofs.ReadingsAlike.{returned-taken, tied-alike as graph-tied}
 use Rattle.mask_store.specs.declared.MaskStore.{MaskStore}
 use Rattle.mask_store.specs.Masks.{allowed}
 use Rattle.plan_rules.specs.Plan.{Settings, Sane, planOf, planSize, holdsPlan}
 use Rattle.plan_rules.proofs.Again.{room-again, plan-taken, plan-long}
 use Rattle.plan_rules.proofs.OwnStore.{own-allowed, own-holds}
-use Rattle.plans.specs.declared.plan.PlanAnswer.the-variants.{Planned}
-use Rattle.plans.specs.Plan.{planCall}
+use Rattle.planning.specs.declared.plan.PlanAnswer.the-variants.{Planned}
+use Rattle.planning.specs.Plan.{planCall}
 use Rattle.plans.specs.Run.{runCall}
 use Rattle.plans.proofs.Unrefused.{PlanLeft, plan-left, Taken, taken-reads, reading-answers}
 

@@ -1,12 +1,4 @@
-pub mod Scans
-pub mod Entries
-pub mod Filling
-pub mod ListAnswers
-pub mod EndToEnd
-pub mod Planning
 pub mod Running
 pub mod PlannedScans
-pub mod StoreAfter
 pub mod Unrefused
 pub mod Demand3
-pub mod PlanValues

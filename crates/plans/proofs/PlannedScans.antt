@@ -14,13 +14,13 @@ use Rattle.rules.specs.Read.{Reading, Bytes, readGraph}
 use Rattle.mask_store.specs.declared.MaskStore.{MaskStore}
 use Rattle.plan_rules.specs.Plan.{base}
 use Rattle.plan_rules.specs.Run.{runFrom, rowsOf}
-use Rattle.plans.specs.declared.scan.Place.{Place}
-use Rattle.plans.specs.declared.scan.Place.the-variants.{Reading as ReadingAt, Ended as HasEnded}
-use Rattle.plans.specs.declared.scan.Scan.{Scan}
-use Rattle.plans.specs.List.{noList, listFrom, scanList}
+use Rattle.scans.specs.declared.scan.Place.{Place}
+use Rattle.scans.specs.declared.scan.Place.the-variants.{Reading as ReadingAt, Ended as HasEnded}
+use Rattle.scans.specs.declared.scan.Scan.{Scan}
+use Rattle.scans.specs.List.{noList, listFrom, scanList}
 use Rattle.plans.specs.Run.{past, planRefusal, plannedRefusal, plannedList, RunsAlike}
-use Rattle.plans.proofs.Entries.{part-is}
-use Rattle.plans.proofs.ListAnswers.{list-over, list-taken}
+use Rattle.scans.proofs.Entries.{part-is}
+use Rattle.scans.proofs.ListAnswers.{list-over, list-taken}
 use Rattle.plans.proofs.Running.{Taken, taken}
 
 -- the run of the part of a text from an offset on reads what the graph reads of it

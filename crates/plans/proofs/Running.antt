@@ -24,10 +24,10 @@ use Rattle.plan_rules.proofs.Legal.{legal-closed, legal-root}
 use Rattle.plan_rules.proofs.RunIsWalk.{base-sane, takes-few, plan-runs}
 use Rattle.plan_rules.proofs.Decided.{plan-decided}
 use Rattle.runner.specs.Prepared.{PlanOn}
-use Rattle.graph.specs.declared.read.Read.the-variants.{Refused}
-use Rattle.graph.specs.Answers.{reading}
+use Rattle.readings.specs.declared.read.Read.the-variants.{Refused}
+use Rattle.readings.specs.Answers.{reading}
 use Rattle.plans.specs.Run.{planRefusal, runRefusal, runCall, RunsAlike}
-use Rattle.plans.proofs.Planning.{grown-count}
+use Rattle.planning.proofs.Planning.{grown-count}
 
 pub count-few : (store : MaskStore) (cs : List Class) → takes store cs ≡ true → store .count ≤ 64
 unfolding takes allowed

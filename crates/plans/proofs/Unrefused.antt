@@ -11,23 +11,23 @@ use lib.ListN.{length, drop}
 use Rattle.lists.proofs.Bools.{Is, yes-is, no-is, is}
 use Rattle.rules.specs.Graph.{Graph, graphFrom, graphFits}
 use Rattle.rules.specs.Read.{Bytes, Reading, readGraph}
-use Rattle.graph.specs.declared.read.Read.the-variants.{Refused}
-use Rattle.graph.specs.Answers.{reading, graphRead}
-use Rattle.graph.proofs.Answering.{graph-answered}
+use Rattle.readings.specs.declared.read.Read.the-variants.{Refused}
+use Rattle.readings.specs.Answers.{reading, graphRead}
+use Rattle.readings.proofs.Answering.{graph-answered}
 use Rattle.mask_store.specs.declared.MaskStore.{MaskStore}
 use Rattle.mask_store.specs.Masks.{takes, grown}
 use Rattle.plan_rules.specs.Plan.{Settings, Sane, needs, planOf, planSize}
 use Rattle.plan_rules.specs.Run.{run, isPlan}
 use Rattle.plan_rules.proofs.Legal.{legal-closed, legal-root}
 use Rattle.plan_rules.proofs.RunIsWalk.{plan-runs}
-use Rattle.plans.specs.declared.plan.PlanAnswer.the-variants.{Planned, Refused as NoPlan}
-use Rattle.plans.specs.declared.scan.Place.{Place}
-use Rattle.plans.specs.declared.scan.Place.the-variants.{Reading as ReadingAt, Ended as HasEnded}
-use Rattle.plans.specs.declared.scan.Scan.{Scan}
-use Rattle.plans.specs.Plan.{planCall}
+use Rattle.planning.specs.declared.plan.PlanAnswer.the-variants.{Planned, Refused as NoPlan}
+use Rattle.scans.specs.declared.scan.Place.{Place}
+use Rattle.scans.specs.declared.scan.Place.the-variants.{Reading as ReadingAt, Ended as HasEnded}
+use Rattle.scans.specs.declared.scan.Scan.{Scan}
+use Rattle.planning.specs.Plan.{planCall}
 use Rattle.plans.specs.Run.{planRefusal, runRefusal, runCall, past, plannedRefusal, plannedList}
-use Rattle.plans.specs.List.{noList, scanList}
-use Rattle.plans.proofs.ListAnswers.{list-past}
+use Rattle.scans.specs.List.{noList, scanList}
+use Rattle.scans.proofs.ListAnswers.{list-past}
 
 zero-one : _≡_ {A = ℕ} 0 1 → ⊥
 zero-one e = omega arith

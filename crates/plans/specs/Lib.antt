@@ -1,4 +1,1 @@
-pub mod Scan
-pub mod List
-pub mod Plan
 pub mod Run

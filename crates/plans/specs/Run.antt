@@ -8,17 +8,17 @@ use lib.Dec.{eqb, ltb}
 use lib.ListN.{length}
 use Rattle.rules.specs.Graph.{Graph, graphFrom, graphFits}
 use Rattle.rules.specs.Read.{Bytes, readGraph}
-use Rattle.graph.specs.declared.read.Read.{Read}
-use Rattle.graph.specs.declared.read.Read.the-variants.{Refused}
-use Rattle.graph.specs.Answers.{reading}
+use Rattle.readings.specs.declared.read.Read.{Read}
+use Rattle.readings.specs.declared.read.Read.the-variants.{Refused}
+use Rattle.readings.specs.Answers.{reading}
 use Rattle.mask_store.specs.declared.MaskStore.{MaskStore}
 use Rattle.mask_store.specs.Masks.{takes}
 use Rattle.plan_rules.specs.Plan.{Settings, base, needs, planSize}
 use Rattle.plan_rules.specs.Run.{runFrom, rowsOf, run, isPlan}
-use Rattle.plans.specs.declared.scan.Place.{Place}
-use Rattle.plans.specs.declared.scan.Place.the-variants.{Reading as ReadingAt, Ended as HasEnded}
-use Rattle.plans.specs.declared.scan.Scan.{Scan}
-use Rattle.plans.specs.List.{ScanList, noList, scanList}
+use Rattle.scans.specs.declared.scan.Place.{Place}
+use Rattle.scans.specs.declared.scan.Place.the-variants.{Reading as ReadingAt, Ended as HasEnded}
+use Rattle.scans.specs.declared.scan.Scan.{Scan}
+use Rattle.scans.specs.List.{ScanList, noList, scanList}
 
 -- of graph words that 12 takes: 14, 15 and 14 again, or 0. "plan below 3 words a state"; "a run's plan, where 15 doesn't hold, not the one its graph
 -- and store give or naming a mask not held"

@@ -1,10 +1,10 @@
-// Scanning a text by a graph (document 01, "The scan is a machine over a text and a graph"); planning a graph on a mask store, running a text by the
-// plan, and scanning by it ("Edges, costs, masks").
+// Plans and scanning (document 01, "Edges, costs, masks"; "The scan is a machine over a text and a graph"): running a text by a plan (`run`) and
+// scanning by it (`planned`); and, passed on from the crates that hold them, planning (`plan`) and the scan by a graph (`scan`, `list`).
 //
-// What each call answers is defined in specs/{Scan,List,Plan,Run}.antt; that a scan moves on and ends is in proofs/Scans.antt.
-
-pub mod list;
-pub mod plan;
+// What `run` and `planned` answer is defined in specs/Run.antt; demand 3 is proofs/Demand3.antt.
 pub mod planned;
 pub mod run;
-pub mod scan;
+
+pub use planning::plan;
+pub use scans::list;
+pub use scans::scan;

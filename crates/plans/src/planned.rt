@@ -7,15 +7,15 @@ ghost use Rattle.rules.specs.Graph.{graphFits, graphFrom};
 ghost use Rattle.rules.specs.Read.{readGraph};
 ghost use Rattle.plan_rules.specs.Plan.{base, planSize};
 ghost use Rattle.runner.specs.Prepared.{Prepared, PlanOn};
-ghost use Rattle.plans.specs.Scan.{entryOf};
-ghost use Rattle.plans.specs.List.{listFrom};
+ghost use Rattle.scans.specs.Scan.{entryOf};
+ghost use Rattle.scans.specs.List.{listFrom};
 ghost use Rattle.plans.specs.Run.{RunsAlike, past, plannedRefusal, plannedList};
-use crate::list::ListAnswer;
-use crate::list::Listed;
-use crate::scan::Entry;
-use crate::scan::Place;
-use crate::scan::Scan;
 use mask_store::MaskStore;
+use scans::list::ListAnswer;
+use scans::list::Listed;
+use scans::scan::Entry;
+use scans::scan::Place;
+use scans::scan::Scan;
 
 // The token or gap at an offset below the length, by a plan that runs every text as the graph walks it.
 fn planned_entry(
@@ -35,7 +35,7 @@ fn planned_entry(
     ensures { λ r. ⌜ r ≡ entryOf (now (text .entry)) at (readGraph (graphFrom (now (graph .entry))) (drop at (now (text .entry)))) ⌝ }
 {
     let r = runner::run::run(graph, plan, tables, ends, tests, &text[at..]);
-    crate::scan::entry_by(text, at, r)
+    scans::scan::entry_by(text, at, r)
 }
 
 // Entries from an offset on, as many as there is room for.
@@ -69,7 +69,7 @@ fn fill(
             };
         }
         let e = planned_entry(graph, plan, tables, ends, tests, text, at);
-        crate::list::put_entry(out, n, at, e);
+        scans::list::put_entry(out, n, at, e);
         at = e.end;
         n += 1;
     }

@@ -4,8 +4,8 @@ ghost use mathlib.Core.Bool.{true};
 ghost use Rattle.rules.specs.Graph.{graphFits, graphFrom};
 ghost use Rattle.plan_rules.specs.Plan.{base};
 ghost use Rattle.plans.specs.Run.{planRefusal, runRefusal, runCall};
-use graph::read::Read;
 use mask_store::MaskStore;
+use readings::read::Read;
 
 // Why the words are no plan of a graph that 12 takes, on this store: 14 or 15; or 0. The plan of graph and store names no mask that the store lacks
 // exactly where the store lacks no class that the graph needs.
@@ -57,5 +57,5 @@ pub fn run(graph: &[u16], plan: &[u16], store: MaskStore, text: &[u8]) -> Read
     let mut tests = [0u8; 24576];
     runner::prepare::prepare(graph, &mut ends, &mut tests);
     let tables = store.tables;
-    graph::read::answer(runner::run::run(graph, plan, &tables, &ends, &tests, text))
+    readings::read::answer(runner::run::run(graph, plan, &tables, &ends, &tests, text))
 }

@@ -6,11 +6,11 @@ ghost use Prim.Native.Nat.{suc, _+_, _*_, _≤_, _<_};
 ghost use lib.ListN.{length, getD};
 ghost use Rattle.rules.specs.Graph.{graphFits, graphFrom, to, acceptOf};
 ghost use Rattle.rules.specs.Read.{late, onward};
-ghost use Rattle.graph.specs.Answers.{recorded};
+ghost use Rattle.readings.specs.Answers.{recorded};
 ghost use Rattle.plan_rules.specs.Plan.{base, planSize};
 ghost use Rattle.plan_rules.specs.Run.{runFrom, rowsOf};
 ghost use Rattle.runner.specs.Prepared.{Prepared, PlanOn};
-use graph::read::Record;
+use readings::read::Record;
 
 // The record after the end step from state s, k bytes passed: "the end target, if any, records its accept with the text's length".
 fn ended(graph: &[u16], s: usize, k: usize, r: Record) -> Record
@@ -23,7 +23,7 @@ fn ended(graph: &[u16], s: usize, k: usize, r: Record) -> Record
         return r;
     }
     let marks = words::graph::word(graph, target, 257);
-    graph::read::left(marks % 256, k, r)
+    readings::read::left(marks % 256, k, r)
 }
 
 // The last record of the run.
@@ -51,7 +51,7 @@ pub fn run(
         // the self run first, so that the marks are read where it ends
         let j = crate::self_run::passed(plan, tables, s, text, k);
         let marks = words::graph::word(graph, s, 257);
-        r = graph::read::entered(marks, j, r);
+        r = readings::read::entered(marks, j, r);
         if j == text.len() {
             return ended(graph, s, j, r);
         }

@@ -18,7 +18,7 @@ fn self_run(tables: &[u8; 2048], i: usize, text: &[u8], from: usize) -> usize
     let bit = i % 8;
     let mut k = from;
     while k < text.len() {
-        let b = graph::read::byte(text, k);
+        let b = readings::read::byte(text, k);
         if !bits::test_bit(tables[base + b], bit) {
             return k;
         }

@@ -14,6 +14,7 @@ ghost use lib.Seq.{sets};
 
 pub mod graph;
 pub mod table;
+pub mod views;
 
 // Word i.
 pub fn word(words: &[u16], i: usize) -> usize

@@ -5,7 +5,7 @@ use Prim.Native.Nat.{_+_, _-_, _≤_, _<_}
 use native.Mathlib.Omega.{arith}
 use borrow.Author.Needs.{needs}
 use borrow.Author.Tests.{not-true, not-false}
-use Rattle.pattern.proofs.TreeLaws.{tree-rules}
+use Rattle.trees.proofs.TreeLaws.{tree-rules}
 use Rattle.pattern.proofs.GreedyLaws.{Noted, noted-starts, named-below, noted-goes, noted-ends}
 use Rattle.pattern.proofs.Answers.{no-greedy-tree, greedy-told}
 use Rattle.pattern.proofs.check_for_greedy_all.Statement.{statement}

@@ -5,8 +5,8 @@ use mathlib.Core.Path.{_≡_, sym, ap, _∙_}
 use native.Mathlib.Omega.{arith}
 use lib.ListN.{length}
 use Rattle.plan_rules.specs.Plan.{base}
-use Rattle.plans.specs.declared.plan.Planning.{Planning}
-use Rattle.plans.specs.Plan.{PlanCall, planTold, planCall}
+use Rattle.planning.specs.declared.plan.Planning.{Planning}
+use Rattle.planning.specs.Plan.{PlanCall, planTold, planCall}
 use Rattle.capi.specs.Stores.{storeIn}
 use Rattle.capi.proofs.Blocks.{sets-whole}
 use Rattle.capi.proofs.HeldPlans.{plan-in, plan-in-none, plan-in-size}

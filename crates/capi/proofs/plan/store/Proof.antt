@@ -1,7 +1,7 @@
 -- `plan::store` meets its contract: what is stored is what `planTold` tells of the answer's variant. Assumes nothing.
 use borrow.Author.Needs.{needs}
 use mathlib.Core.Path.{ap}
-use Rattle.plans.specs.Plan.{planTold}
+use Rattle.planning.specs.Plan.{planTold}
 use Rattle.capi.proofs.plan.store.Statement.{statement}
 use Rattle.capi.proofs.plan.store.Tie as tie
 

@@ -1,7 +1,7 @@
 -- `read::balthwyr_read_table` meets its contract: the answer of `read_table` is stored. Assumes nothing.
 use borrow.Author.Needs.{needs}
 use mathlib.Core.Path.{sym, ap, _∙_}
-use Rattle.graph.specs.Answers.{readTold}
+use Rattle.readings.specs.Answers.{readTold}
 use Rattle.capi.proofs.read.balthwyr_read_table.Statement.{statement}
 use Rattle.capi.proofs.read.balthwyr_read_table.Tie as tie
 

@@ -1,7 +1,7 @@
 -- `read::store` meets its contract: what is stored is what `readTold` tells of the answer's variant. Assumes nothing.
 use borrow.Author.Needs.{needs}
 use mathlib.Core.Path.{ap}
-use Rattle.graph.specs.Answers.{readTold}
+use Rattle.readings.specs.Answers.{readTold}
 use Rattle.capi.proofs.read.store.Statement.{statement}
 use Rattle.capi.proofs.read.store.Tie as tie
 

@@ -1,7 +1,7 @@
 -- `scan::store` meets its contract: what is stored is what `scanTold` tells of the answer's variant. Assumes nothing.
 use borrow.Author.Needs.{needs}
 use mathlib.Core.Path.{ap}
-use Rattle.plans.specs.Scan.{scanTold}
+use Rattle.scans.specs.Scan.{scanTold}
 use Rattle.capi.proofs.scan.store.Statement.{statement}
 use Rattle.capi.proofs.scan.store.Tie as tie
 

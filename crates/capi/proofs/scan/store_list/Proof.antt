@@ -1,7 +1,7 @@
 -- `scan::store_list` meets its contract: what is stored is what `listTold` tells of the answer's variant. Assumes nothing.
 use borrow.Author.Needs.{needs}
 use mathlib.Core.Path.{ap}
-use Rattle.plans.specs.List.{listTold}
+use Rattle.scans.specs.List.{listTold}
 use Rattle.capi.proofs.scan.store_list.Statement.{statement}
 use Rattle.capi.proofs.scan.store_list.Tie as tie
 

@@ -7,7 +7,7 @@ use native.Mathlib.Omega.{arith}
 use lib.ListN.{length, getD}
 use Rattle.rules.specs.Table.{tableOf, refusal}
 use Rattle.rules.proofs.Shape.{exact, few-states, start-none, start-some}
-use Rattle.graph.proofs.Answering.{refusal-small}
+use Rattle.readings.proofs.Answering.{refusal-small}
 use Rattle.graph.proofs.Building.{build-none, build-empty, build-states, new-refused, new-short, new-built}
 use borrow.Author.Needs.{needs}
 use Rattle.graph.proofs.new.new.Statement.{statement}
@@ -17,8 +17,8 @@ use Rattle.graph.proofs.new.new.Lts as lts
 use Rattle.graph.proofs.new.with_empty.Reads as with-empty-reads
 use Rattle.graph.proofs.new.with_states.Reads as with-states-reads
 use Rattle.graph.proofs.new.without_start.Reads as without-start-reads
-use Rattle.table.proofs.check.check.Reads as check-reads
-use Rattle.table.proofs.check.count_empty.Reads as count-empty-reads
+use Rattle.legal.proofs.check.Reads as check-reads
+use Rattle.legal.proofs.count_empty.Reads as count-empty-reads
 use Rattle.words.proofs.graph.place.Reads as place-reads
 use Rattle.words.proofs.table.start.Reads as start-reads
 use Rattle.words.proofs.table.states.Reads as states-reads

@@ -15,7 +15,7 @@ use Rattle.graph.proofs.new.with_empty.Tie as tie
 use Rattle.graph.proofs.new.with_empty.Reads as reads
 use Rattle.graph.proofs.new.with_empty.Lts as lts
 use Rattle.graph.proofs.new.no_states.Reads as no-states-reads
-use Rattle.table.proofs.ties.write_empty.Reads as write-empty-reads
+use Rattle.conflicts.proofs.write_empty.Reads as write-empty-reads
 
 -- the build of a table whose leaves can match empty text
 abbrev built : tie.Start → Built

@@ -11,9 +11,9 @@ use Rattle.graph.proofs.new.with_states.Tie as tie
 use Rattle.graph.proofs.new.with_states.Reads as reads
 use Rattle.graph.proofs.new.with_states.Lts as lts
 use Rattle.graph.proofs.new.write_graph.Reads as write-graph-reads
-use Rattle.table.proofs.reach.reached.Reads as reached-reads
-use Rattle.table.proofs.ties.tie_words.Reads as tie-words-reads
-use Rattle.table.proofs.ties.write_ties.Reads as write-ties-reads
+use Rattle.reach.proofs.reached.Reads as reached-reads
+use Rattle.conflicts.proofs.tie_words.Reads as tie-words-reads
+use Rattle.conflicts.proofs.write_ties.Reads as write-ties-reads
 use Rattle.words.proofs.word.Reads as word-reads
 
 reached-requires : tie.Need-reached-requires

@@ -11,9 +11,9 @@ use Rattle.graph.proofs.new.write_graph.Statement.{statement}
 use Rattle.graph.proofs.new.write_graph.Tie as tie
 use Rattle.graph.proofs.new.write_graph.Reads as reads
 use Rattle.graph.proofs.new.write_graph.Lts as lts
-use Rattle.rewrite.proofs.clear.clear.Reads as clear-reads
-use Rattle.rewrite.proofs.early.early.Reads as early-reads
-use Rattle.table.proofs.rows.write.Reads as write-reads
+use Rattle.clear.proofs.clear.Reads as clear-reads
+use Rattle.early.proofs.early.Reads as early-reads
+use Rattle.rows.proofs.write.Reads as write-reads
 
 write-requires : tie.Need-write-requires
 write-requires c κs =

@@ -20,7 +20,7 @@ use Rattle.pattern.proofs.complexity.record_value.Reads as record-value
 use Rattle.pattern.proofs.complexity.record_value.Kinds as record-value-kinds
 use Rattle.pattern.proofs.complexity.+chain_least+chain_sum+record_value.Lts-record_value as record-value-lts
 use Rattle.pattern.proofs.complexity.literal_value.Reads as literal-value-reads
-use Rattle.pattern.proofs.tree.record_at.Reads as record-at-reads
+use Rattle.trees.proofs.tree.record_at.Reads as record-at-reads
 use Rattle.pattern.proofs.values.added.Reads as added-reads
 use Rattle.pattern.proofs.values.least_of.Reads as least-of-reads
 use Rattle.pattern.proofs.values.multiplied.Reads as multiplied-reads

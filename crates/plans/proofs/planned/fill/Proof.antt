@@ -6,8 +6,8 @@ use native.Mathlib.Omega.{arith}
 use borrow.Author.Needs.{needs}
 use lib.ListN.{length}
 use Rattle.rules.specs.Graph.{graphFrom}
-use Rattle.plans.specs.List.{listFrom}
-use Rattle.plans.proofs.Filling.{Filling, filling-none, filling-more, left-full, left-ends, done-listed, done-buffer}
+use Rattle.scans.specs.List.{listFrom}
+use Rattle.scans.proofs.Filling.{Filling, filling-none, filling-more, left-full, left-ends, done-listed, done-buffer}
 use Rattle.plans.proofs.planned.fill.Statement.{statement}
 use Rattle.plans.proofs.planned.fill.Tie as tie
 

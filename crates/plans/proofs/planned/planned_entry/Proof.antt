@@ -4,9 +4,9 @@ use native.Mathlib.Omega.{arith}
 use lib.ListN.{drop}
 use Rattle.rules.specs.Graph.{graphFrom}
 use Rattle.rules.specs.Read.{readGraph}
-use Rattle.graph.specs.Answers.{recorded}
-use Rattle.plans.specs.Scan.{entryOf}
-use Rattle.plans.proofs.Entries.{token-within}
+use Rattle.readings.specs.Answers.{recorded}
+use Rattle.scans.specs.Scan.{entryOf}
+use Rattle.scans.proofs.Entries.{token-within}
 use Rattle.plans.proofs.PlannedScans.{run-reads}
 use borrow.Author.Needs.{needs}
 use Rattle.plans.proofs.planned.planned_entry.Statement.{statement}

@@ -4,7 +4,7 @@ use Prim.Native.Nat.{ℕ}
 use borrow.Author.Needs.{needs}
 use lib.ListN.{length, length-replicate}
 use Rattle.rules.specs.Graph.{graphFrom}
-use Rattle.plans.proofs.ListAnswers.{both}
+use Rattle.scans.proofs.ListAnswers.{both}
 use Rattle.plans.proofs.Running.{plan-on, runs-alike}
 use Rattle.plans.proofs.PlannedScans.{past-at, Scannable, scannable, planned-refused, planned-over, planned-list}
 use Rattle.plans.proofs.planned.scan_planned.Statement.{statement}

@@ -9,7 +9,7 @@ use Rattle.rules.proofs.Taken.{taken-long}
 use Rattle.rules.specs.Graph.{graphFrom}
 use Rattle.mask_store.specs.Masks.{grown, takes}
 use Rattle.plan_rules.specs.Plan.{base, needs as needed, planSize}
-use Rattle.plans.proofs.Planning.{size-is, grow-taken, grow-store}
+use Rattle.planning.proofs.Planning.{size-is, grow-taken, grow-store}
 use Rattle.plans.proofs.Running.{count-few, plan-short, plan-full, plan-lacks, plan-differs, plan-taken}
 use borrow.Author.Needs.{needs}
 use Rattle.plans.proofs.run.refusal.Statement.{statement}

@@ -1,14 +1,14 @@
 -- By whether there is an end target. Assumes nothing.
 use mathlib.Core.Path.{_∙_}
 use native.Mathlib.Omega.{arith}
-use Rattle.graph.specs.Answers.{recorded}
+use Rattle.readings.specs.Answers.{recorded}
 use Rattle.runner.proofs.Running.{no-end, end-below, end-marks}
 use borrow.Author.Needs.{needs}
 use Rattle.runner.proofs.run.ended.Statement.{statement}
 use Rattle.runner.proofs.run.ended.Tie as tie
 use Rattle.runner.proofs.run.ended.Reads as reads
 use Rattle.runner.proofs.run.ended.Lts as lts
-use Rattle.graph.proofs.read.left.Reads as left-reads
+use Rattle.readings.proofs.read.left.Reads as left-reads
 use Rattle.words.proofs.graph.word.Reads as word-reads
 
 word-requires : tie.Need-word-requires

@@ -8,7 +8,7 @@ use borrow.Author.Needs.{needs}
 use lib.ListN.{length, getD}
 use Rattle.rules.specs.Graph.{graphFrom}
 use Rattle.rules.proofs.Taken.{taken-long, taken-few, taken-root}
-use Rattle.graph.specs.Answers.{recorded}
+use Rattle.readings.specs.Answers.{recorded}
 use Rattle.plan_rules.specs.Plan.{base}
 use Rattle.plan_rules.specs.Run.{runFrom, rowsOf}
 use Rattle.runner.proofs.Running.{rest, rest-start, no-states, plan-long, mask-few, run-ends, run-stops, run-goes}
@@ -16,7 +16,7 @@ use Rattle.runner.proofs.run.run.Statement.{statement}
 use Rattle.runner.proofs.run.run.Tie as tie
 use Rattle.runner.proofs.run.run.Reads as reads
 use Rattle.runner.proofs.run.run.Lts as lts
-use Rattle.graph.proofs.read.entered.Reads as entered-reads
+use Rattle.readings.proofs.read.entered.Reads as entered-reads
 use Rattle.runner.proofs.led.led_on.Reads as led-on-reads
 use Rattle.runner.proofs.run.ended.Reads as ended-reads
 use Rattle.runner.proofs.self_run.passed.Reads as passed-reads

@@ -1,0 +1,176 @@
+-- Rule 5 on words: the leaf that all children of a state have, from the leaf that each edge leads to. Assumes nothing.
+use mathlib.Core.Path.{_≡_, refl, sym, ap, _∙_}
+use mathlib.Core.Bool.{true, cond}
+use mathlib.Core.List.{List, [], _∷_, _++_, map, append-nil}
+use mathlib.Core.Option.{Option, none, some, Option·getD}
+use mathlib.Core.Logic.{⊎-elim}
+use Prim.Native.Nat.{ℕ, zero, suc, _+_, _*_, _%_, _≤_, _<_, suc-le-suc}
+use native.Mathlib.Nat.{not-suc-le-zero, le-of-suc-le-suc}
+use native.Mathlib.Omega.{arith}
+use lib.ListN.{length, getD, take, drop, length-map, take-append-drop, drop-of-length-le, List·getD-map}
+use lib.Seq.{drop-cons, length-take-le, getD-take, ext-getD}
+use Rattle.lists.specs.Lists.{allL, eqOption}
+use Rattle.lists.proofs.Bools.{Is, is, yes-is, no-is, none-some, lt-or-le}
+use Rattle.lists.proofs.Elements.{all-intro, all-at, option-sound}
+use Rattle.rules.specs.Graph.{State, Graph, stateOf, to, acceptOf, earlyOf, orNone, graphFrom, graphFits}
+use Rattle.rules.specs.Build.{children, acceptBy, agreed, withEarly}
+use Rattle.rules.proofs.Flat.{from-to, from-accept, from-length, from-width}
+use Rattle.rules.proofs.Marks.{early-early}
+use Rattle.rules.proofs.Taken.{taken-long}
+use Rattle.rules.proofs.Views.{out-accept}
+use Rattle.rules.proofs.Nones.{word-inj}
+use Rattle.words.proofs.GraphWords.{accept-leaf}
+
+-- ---- lists of leaves
+
+pub agreed-all : (l : List (Option ℕ)) (x : Option ℕ) → 0 < length l → ((i : ℕ) → i < length l → getD l i none ≡ x) → agreed l ≡ x
+agreed-all [] x h f = absurd (not-suc-le-zero h)
+agreed-all (o ∷ l) x h f =
+    let e : o ≡ x = f 0 (omega arith) in
+    rw (all-intro (eqOption o) l none (λ i b. ap (eqOption o) (f (suc i) (suc-le-suc b) ∙ sym e) ∙ option-sound .self o)) e
+
+pub agreed-none : (l : List (Option ℕ)) (i : ℕ) → i < length l → (getD l i none ≡ getD l 0 none → ⊥) → agreed l ≡ none
+agreed-none [] i h n = refl
+agreed-none (o ∷ l) zero h n = absurd (n refl)
+agreed-none (o ∷ l) (suc i) h n = go (is (allL (eqOption o) l))
+  where
+    go : Is (allL (eqOption o) l) → cond (allL (eqOption o) l) o none ≡ none
+    go (yes-is q) = absurd (n (sym (option-sound .eq o (getD l i none) (all-at (eqOption o) l i none q (le-of-suc-le-suc h)))))
+    go (no-is q) = rw q
+
+-- ---- the children of a row of 257
+
+module _ (s : State) (width : length (s .steps) ≡ 257) where
+  last : drop 256 (s .steps) ≡ getD (s .steps) 256 none ∷ []
+  last = drop-cons (s .steps) 256 none (omega arith) ∙ ap (_∷_ (getD (s .steps) 256 none)) (drop-of-length-le (s .steps) {i = 257} (omega arith))
+
+  children-bytes : getD (s .steps) 256 none ≡ none → children s ≡ take 256 (s .steps)
+  unfolding children
+  children-bytes e = rw (last, e) (append-nil (take 256 (s .steps)))
+
+  children-all : (u : ℕ) → getD (s .steps) 256 none ≡ some u → children s ≡ s .steps
+  unfolding children
+  children-all u e = rw (last, e) (ap (λ (x : List (Option ℕ)). take 256 (s .steps) ++ x) (sym (last ∙ rw e)) ∙ take-append-drop 256 (s .steps))
+
+-- ---- the leaves of a state's children
+
+-- the word of the leaf that edge c of state s leads to
+abbrev pub leafBy : List ℕ → ℕ → ℕ → ℕ
+leafBy w s c = Option·getD (acceptBy (graphFrom w) (to (graphFrom w) s c)) 255
+
+-- the word of the early leaf of state s
+abbrev pub earlyLeaf : List ℕ → ℕ → ℕ
+earlyLeaf w s = Option·getD (earlyOf (withEarly (graphFrom w)) s) 255
+
+module _ (w : List ℕ) (taken : graphFits w ≡ true) (s : ℕ) (h : s < getD w 0 0) where
+  abbrev g : Graph
+  g = graphFrom w
+
+  abbrev leaves : List (Option ℕ)
+  leaves = map (acceptBy g) (children (stateOf g s))
+
+  width : length (stateOf g s .steps) ≡ 257
+  width = from-width w (taken-long w taken) s h
+
+  -- the children are the edges of l, a part of the row
+  module _ (l : List (Option ℕ)) (all : children (stateOf g s) ≡ l) where
+    size : length leaves ≡ length l
+    size = length-map (children (stateOf g s)) (acceptBy g) ∙ ap length all
+
+    leaf-at : (c : ℕ) → getD l c none ≡ to g s c → getD leaves c none ≡ acceptBy g (to g s c)
+    leaf-at c e = List·getD-map (acceptBy g) (children (stateOf g s)) c none ∙ ap (acceptBy g) (ap (λ (x : List (Option ℕ)). getD x c none) all ∙ e)
+
+  -- how many children there are, and that child c is that of edge c
+  record Kids (n : ℕ) : Type 0 where
+    many : length leaves ≡ n
+    leaf : (c : ℕ) → c < n → getD leaves c none ≡ acceptBy g (to g s c)
+
+  byte-kids : to g s 256 ≡ none → Kids 256
+  unfolding to
+  byte-kids e =
+      let row = stateOf g s .steps in
+      let kids = children-bytes (stateOf g s) width e in
+      let short = length-take-le 256 row (let z = width in omega arith) in
+      record { many = size (take 256 row) kids ∙ short; leaf = λ c b. leaf-at (take 256 row) kids c (getD-take 256 row c none b) }
+
+  all-kids : (u : ℕ) → to g s 256 ≡ some u → Kids 257
+  unfolding to
+  all-kids u e =
+      let kids = children-all (stateOf g s) width u e in
+      record { many = size (stateOf g s .steps) kids ∙ width; leaf = λ c b. leaf-at (stateOf g s .steps) kids c refl }
+
+  -- ---- what they agree on
+
+  module _ (n : ℕ) (k : Kids n) (some-kid : 256 ≤ n) where
+    early-is : (o : Option ℕ) → agreed leaves ≡ o → Option·getD o 255 ≡ earlyLeaf w s
+    early-is o e = ap (λ (o : Option ℕ). Option·getD o 255) (sym (early-early g s ∙ e))
+
+    differ : (c : ℕ) → c < n → (leafBy w s c ≡ leafBy w s 0 → ⊥) → 255 ≡ earlyLeaf w s
+    differ c b d =
+        let m = k .many in
+        early-is none
+        (agreed-none leaves c (omega arith) (λ q. d (ap (λ (o : Option ℕ). Option·getD o 255) (sym (k .leaf c b) ∙ q ∙ k .leaf 0 (omega arith)))))
+
+    agree : ((c : ℕ) → c < n → leafBy w s c ≡ leafBy w s 0) → leafBy w s 0 ≡ earlyLeaf w s
+    agree f =
+        let m = k .many in
+        early-is (acceptBy g (to g s 0))
+        (agreed-all leaves (acceptBy g (to g s 0)) (omega arith) (λ c b.
+        let b′ : c < n = omega arith in
+        k .leaf c b′ ∙ word-inj 255 _ _ (no-leaf (to g s c)) (no-leaf (to g s 0)) (f c b′)))
+      where
+        no-leaf : (o : Option ℕ) → acceptBy g o ≡ some 255 → ⊥
+        no-leaf none e = none-some e
+        no-leaf (some u) e = accept-leaf w taken u e
+
+  pub byte-differs : (c : ℕ) → c < 256 → (leafBy w s c ≡ leafBy w s 0 → ⊥) → 255 ≡ earlyLeaf w s
+  byte-differs c b d = go (to g s 256) refl
+    where
+      go : (o : Option ℕ) → to g s 256 ≡ o → 255 ≡ earlyLeaf w s
+      go none e = differ 256 (byte-kids e) (omega arith) c b d
+      go (some u) e = differ 257 (all-kids u e) (omega arith) c (omega arith) d
+
+  pub end-differs : (u : ℕ) → to (graphFrom w) s 256 ≡ some u → (leafBy w s 256 ≡ leafBy w s 0 → ⊥) → 255 ≡ earlyLeaf w s
+  end-differs u e = differ 257 (all-kids u e) (omega arith) 256 (omega arith)
+
+  -- a missing end step does not prevent it
+  pub bytes-agree : to (graphFrom w) s 256 ≡ none → ((c : ℕ) → c < 256 → leafBy w s c ≡ leafBy w s 0) → leafBy w s 0 ≡ earlyLeaf w s
+  bytes-agree e = agree 256 (byte-kids e) (omega arith)
+
+  pub all-agree : (u : ℕ) → to (graphFrom w) s 256 ≡ some u → ((c : ℕ) → c < 257 → leafBy w s c ≡ leafBy w s 0) → leafBy w s 0 ≡ earlyLeaf w s
+  all-agree u e = agree 257 (all-kids u e) (omega arith)
+
+-- ---- words that agree on targets and accepts agree on the early leaf
+
+pub early-alike : (v w : List ℕ) (taken-v : graphFits v ≡ true) (taken-w : graphFits w ≡ true) → getD v 0 0 ≡ getD w 0 0
+    → ((s c : ℕ) → c < 257 → getD v (2 + 258 * s + c) 0 ≡ getD w (2 + 258 * s + c) 0)
+    → ((s : ℕ) → getD v (2 + 258 * s + 257) 0 % 256 ≡ getD w (2 + 258 * s + 257) 0 % 256)
+    → (s : ℕ) → s < getD w 0 0 → earlyLeaf v s ≡ earlyLeaf w s
+unfolding to children
+early-alike v w taken-v taken-w size targets accepts s h =
+    ap (λ (o : Option ℕ). Option·getD o 255) (early-early (graphFrom v) s ∙ kids ∙ sym (early-early (graphFrom w) s))
+  where
+    hv : {k : ℕ} → k < getD w 0 0 → k < getD v 0 0
+    hv l = omega arith
+
+    steps : stateOf (graphFrom v) s .steps ≡ stateOf (graphFrom w) s .steps
+    steps =
+        let a = from-width v (taken-long v taken-v) s (hv h) in
+        ext-getD none (stateOf (graphFrom v) s .steps) (stateOf (graphFrom w) s .steps) (a ∙ sym (from-width w (taken-long w taken-w) s h))
+        (λ c b.
+        let b′ : c < 257 = omega arith in
+        from-to v (taken-long v taken-v) s (hv h) c b′ ∙ ap (orNone 65535) (targets s c b′) ∙ sym (from-to w (taken-long w taken-w) s h c b′))
+
+    accept : (u : ℕ) → acceptOf (graphFrom v) u ≡ acceptOf (graphFrom w) u
+    accept u =
+        ⊎-elim
+        (λ l. from-accept v (taken-long v taken-v) u (hv l) ∙ ap (orNone 255) (accepts u) ∙ sym (from-accept w (taken-long w taken-w) u l))
+        (λ l. out-accept (graphFrom v) u (rw (from-length v, size) l) ∙ sym (out-accept (graphFrom w) u (rw (from-length w) l)))
+        (lt-or-le u (getD w 0 0))
+
+    by : (o : Option ℕ) → acceptBy (graphFrom v) o ≡ acceptBy (graphFrom w) o
+    by none = refl
+    by (some u) = accept u
+
+    kids : agreed (map (acceptBy (graphFrom v)) (children (stateOf (graphFrom v) s))) ≡ agreed (map (acceptBy (graphFrom w)) (children (stateOf (graphFrom w) s)))
+    kids = λ i. agreed (map (λ o. by o i) (children (record { steps = steps i; accept = none; early = none })))

@@ -1,0 +1,5 @@
+pub mod Counts
+pub mod Judging
+pub mod Legal
+pub mod Empties
+pub mod Steps

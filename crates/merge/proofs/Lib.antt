@@ -1,0 +1,3 @@
+pub mod Twins
+pub mod Grouping
+pub mod Rounds

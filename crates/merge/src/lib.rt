@@ -1,0 +1,84 @@
+// Rule 8: equal states become the lowest of them, in rounds until one merges nothing. A round compares each state with the earlier ones that stay, so a
+// graph of n states, d of them distinct, takes at most n d comparisons of two rows a round, most of which end at the first words.
+use relabel::relabel;
+use words::views::word_of;
+use words::word;
+ghost use mathlib.Core.Path.{_≡_};
+ghost use mathlib.Core.Bool.{true, false, not, cond};
+ghost use mathlib.Core.List.{_++_};
+ghost use Prim.Native.Nat.{ℕ, _+_, _*_, _<_};
+ghost use lib.ListN.{getD, drop};
+ghost use Rattle.rules.specs.Graph.{graphFits, graphFrom, graphBuffer, stateOf};
+ghost use Rattle.rules.specs.Build.{mergeRound, mergesNone, merged};
+ghost use Rattle.merge.specs.Equals.{Lowest};
+
+// The lowest state whose marks, 256 targets and end target are those of state s. `stay` tells which states before s equal none before them.
+fn first_equal(graph: &[u16], stay: &[bool; 1024], s: usize) -> usize
+    requires { ⌜ graphFits (now graph) ≡ true ⌝ }
+    requires { ⌜ s < getD (now graph) 0 0 ⌝ }
+    requires { ⌜ ((e : ℕ) → e < s → getD (now stay) e false ≡ false → (f : ℕ) × (f < e) × (stateOf (graphFrom (now graph)) f ≡ stateOf (graphFrom (now graph)) e)) ⌝ }
+    ensures { λ r. ⌜ Lowest (graphFrom (now (graph .entry))) s r ⌝ }
+{
+    let marks = word_of(graph, s, 257);
+    let mut e: usize = 0;
+    'states: while e < s {
+        if !stay[e] || word_of(graph, e, 257) != marks {
+            e += 1;
+            continue;
+        }
+        let mut c: usize = 0;
+        while c < 257 {
+            if word_of(graph, e, c) != word_of(graph, s, c) {
+                e += 1;
+                continue 'states;
+            }
+            c += 1;
+        }
+        return e;
+    }
+    s
+}
+
+// One round, on the rows as it finds them, and whether it merged states. If it did not, the words stay as they are.
+fn merge_round(graph: &mut [u16]) -> bool
+    requires { ⌜ graphFits (now graph) ≡ true ⌝ }
+    ensures { λ r. ⌜ r ≡ not (mergesNone (graphFrom (now (graph .entry)))) ⌝ }
+    ensures { λ r. ⌜ now (graph .exit) ≡ cond (mergesNone (graphFrom (now (graph .entry)))) (now (graph .entry)) (graphBuffer (getD (now (graph .entry)) 0 0) (mergeRound (graphFrom (now (graph .entry)))) ++ drop (2 + 258 * getD (now (graph .entry)) 0 0) (now (graph .entry))) ⌝ }
+    ensures { λ r. ⌜ graphFits (now (graph .exit)) ≡ true ⌝ }
+{
+    let n = word(graph, 0);
+    let mut names = [65535u16; 1024];
+    let mut stay = [false; 1024];
+    let mut k: usize = 0;
+    let mut next: usize = 0;
+    while next < n {
+        let s = next;
+        next += 1;
+        let e = first_equal(graph, &stay, s);
+        if e == s {
+            stay[s] = true;
+            names[s] = k as u16;
+            k += 1;
+        } else {
+            names[s] = names[e];
+        }
+    }
+    if k == n {
+        return false;
+    }
+    relabel(graph, &names, &stay);
+    true
+}
+
+// Merges equal states in rounds, until a round merges nothing.
+pub fn merge(graph: &mut [u16])
+    requires { ⌜ graphFits (now graph) ≡ true ⌝ }
+    ensures { λ _. ⌜ now (graph .exit) ≡ graphBuffer (getD (now (graph .entry)) 0 0) (merged (graphFrom (now (graph .entry))) .graph) ++ drop (2 + 258 * getD (now (graph .entry)) 0 0) (now (graph .entry)) ⌝ }
+    ensures { λ _. ⌜ graphFits (now (graph .exit)) ≡ true ⌝ }
+{
+    loop {
+        if !merge_round(graph) {
+            break;
+        }
+    }
+}

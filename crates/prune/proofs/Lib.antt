@@ -1,0 +1,4 @@
+pub mod BitRows
+pub mod Backward
+pub mod Looking
+pub mod Pruning

@@ -1,0 +1,105 @@
+// Rule 7: the states that are kept.
+use bits::test_bit;
+use bits::with_bit;
+use relabel::numbered;
+use relabel::relabel;
+use words::views::target;
+use words::views::word_of;
+use words::word;
+ghost use mathlib.Core.Path.{_≡_};
+ghost use mathlib.Core.Bool.{true, false, _||_};
+ghost use mathlib.Core.List.{_++_};
+ghost use Prim.Native.Nat.{ℕ, _+_, _*_, _-_, _<_};
+ghost use lib.Dec.{eqb};
+ghost use lib.ListN.{getD, drop, replicate};
+ghost use Rattle.rules.specs.Graph.{graphFits, graphFrom, graphBuffer, stateOf, leads};
+ghost use Rattle.rules.specs.Build.{kept, marked, pruned};
+ghost use Rattle.prune.specs.Matrix.{bitAt};
+
+// The parents of every state, by byte and end edges: bit p of row t is set if state p leads to state t.
+pub fn parents(graph: &[u16]) -> [u8; 131072]
+    requires { ⌜ graphFits (now graph) ≡ true ⌝ }
+    ensures { λ r. ⌜ ((t p : ℕ) → t < 1024 → p < 1024 → bitAt r t p ≡ leads (stateOf (graphFrom (now (graph .entry))) p) t) ⌝ }
+{
+    let n = word(graph, 0);
+    let mut out = [0u8; 131072];
+    let mut p: usize = 0;
+    while p < n {
+        let mut c: usize = 0;
+        while c < 257 {
+            let t = target(graph, p, c);
+            c += 1;
+            if t != 65535 {
+                let at = 128 * t + p / 8;
+                out[at] = with_bit(out[at], p % 8, true);
+            }
+        }
+        p += 1;
+    }
+    out
+}
+
+// Whether state s has a mark, or is the root.
+pub fn is_seed(graph: &[u16], s: usize) -> bool
+    requires { ⌜ graphFits (now graph) ≡ true ⌝ }
+    requires { ⌜ s < getD (now graph) 0 0 ⌝ }
+    ensures { λ r. ⌜ r ≡ (marked (stateOf (graphFrom (now (graph .entry))) s) || eqb (graphFrom (now (graph .entry)) .root) s) ⌝ }
+{
+    if word_of(graph, s, 257) != 65535 {
+        return true;
+    }
+    word(graph, 1) == s
+}
+
+// The states with a mark, the root, and all that can reach one of these: those reached are put on a stack once each, and their parents looked at.
+pub fn kept(graph: &[u16]) -> [bool; 1024]
+    requires { ⌜ graphFits (now graph) ≡ true ⌝ }
+    ensures { λ r. ⌜ r ≡ kept (graphFrom (now (graph .entry))) ++ replicate (1024 - getD (now (graph .entry)) 0 0) false ⌝ }
+{
+    let n = word(graph, 0);
+    let from = parents(graph);
+    let mut out = [false; 1024];
+    let mut stack = [0u16; 1024];
+    let mut top: usize = 0;
+    let mut next: usize = 0;
+    while next < n {
+        let s = next;
+        next += 1;
+        if is_seed(graph, s) {
+            out[s] = true;
+            stack[top] = s as u16;
+            top += 1;
+        }
+    }
+    while 0 < top {
+        top -= 1;
+        let t = stack[top] as usize;
+        let mut p: usize = 0;
+        while p < n {
+            let parent = p;
+            let byte = from[128 * t + parent / 8];
+            if byte == 0 {
+                p += 8 - parent % 8;
+                continue;
+            }
+            p += 1;
+            if test_bit(byte, parent % 8) && !out[parent] {
+                out[parent] = true;
+                stack[top] = parent as u16;
+                top += 1;
+            }
+        }
+    }
+    out
+}
+
+// Drops the states that are not kept; the others keep their order.
+pub fn prune(graph: &mut [u16])
+    requires { ⌜ graphFits (now graph) ≡ true ⌝ }
+    ensures { λ _. ⌜ now (graph .exit) ≡ graphBuffer (getD (now (graph .entry)) 0 0) (pruned (graphFrom (now (graph .entry)))) ++ drop (2 + 258 * getD (now (graph .entry)) 0 0) (now (graph .entry)) ⌝ }
+    ensures { λ _. ⌜ graphFits (now (graph .exit)) ≡ true ⌝ }
+{
+    let keep = kept(graph);
+    let names = numbered(&keep);
+    relabel(graph, &names, &keep);
+}

@@ -1,0 +1,20 @@
+-- A byte is below 256. Assumes nothing.
+use mathlib.Core.Path.{refl}
+use native.Mathlib.Omega.{arith}
+use borrow.Author.Needs.{needs}
+use Rattle.readings.proofs.read.byte.Statement.{statement}
+use Rattle.readings.proofs.read.byte.Tie as tie
+use Rattle.readings.proofs.read.byte.Reads as reads
+use Rattle.readings.proofs.read.byte.Lts as lts
+
+shared-slice-read-result : tie.Need-shared-slice-read-result
+shared-slice-read-result c = search needs
+
+cast-result : tie.Need-cast-result
+cast-result c = omega (arith, c .shared-slice-known .given (c .before .args .k))
+
+returns : tie.Need-returns
+returns c = (refl, omega (arith, c .shared-slice-known .given (c .before .args .k)))
+
+pub byte-spec : {M : Type 1} → statement M
+byte-spec = tie.close (tie.spec shared-slice-read-result cast-result returns)

@@ -1,0 +1,36 @@
+-- What the calls of this crate answer, by the definitions of `rules`. Definitions only.
+use mathlib.Core.Bool.{true, false, cond}
+use mathlib.Core.List.{List, [], _∷_}
+use mathlib.Core.Option.{none, some}
+use Prim.Native.Nat.{ℕ}
+use lib.Dec.{eqb}
+use Rattle.lists.specs.Told.{Told, telling, refusing}
+use Rattle.rules.specs.Table.{tableOf, refusal}
+use Rattle.rules.specs.Graph.{graphFits, graphFrom}
+use Rattle.rules.specs.Read.{Reading, readGraph, readTable}
+use Rattle.readings.specs.declared.read.Read.{Read}
+use Rattle.readings.specs.declared.read.Read.the-variants.{Found, Nothing, Refused}
+
+-- a reading, by its leaf, 255 if there is none, and its end
+abbrev pub recorded : ℕ → ℕ → Reading
+recorded leaf end = cond (eqb leaf 255) none (some (record { leaf = leaf; end = end }))
+
+-- ---- the readings
+
+abbrev pub reading : Reading → Read
+reading none = Nothing
+reading (some f) = Found (f .leaf) (f .end)
+
+-- in document 01's numbers: whether there is a reading, its leaf, its end
+abbrev pub readTold : Read → Told
+readTold (Found leaf end) = telling (1 ∷ leaf ∷ end ∷ [])
+readTold Nothing = telling (0 ∷ 0 ∷ 0 ∷ [])
+readTold (Refused n) = refusing n 3
+
+-- `read_graph`: 12, or the reading
+unfoldable pub graphRead : List ℕ → List ℕ → Read
+graphRead graph text = elim (graphFits graph) [ true ↦ reading (readGraph (graphFrom graph) text) | false ↦ Refused 12 ]
+
+-- `read_table`: 1 to 7, or the reading
+unfoldable pub tableRead : List ℕ → List ℕ → Read
+tableRead table text = elim (eqb (refusal table) 0) [ true ↦ reading (readTable (tableOf table) text) | false ↦ Refused (refusal table) ]

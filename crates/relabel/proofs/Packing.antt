@@ -1,0 +1,151 @@
+-- All rows that stay move together in place: what stands in the words after some rows, and that in the end they are the buffer of the relabelled
+-- graph. Assumes nothing.
+use mathlib.Core.Path.{_≡_, refl, sym, ap, subst, _∙_}
+use mathlib.Core.Bool.{true}
+use mathlib.Core.List.{List, [], _∷_, _++_}
+use mathlib.Core.Option.{Option, none, Option·getD}
+use mathlib.Core.Logic.{_⊎_, inl, inr, ⊎-elim}
+use Prim.Native.Nat.{ℕ, _+_, _*_, _≤_, _<_}
+use native.Mathlib.Nat.{not-suc-le-zero, eq-or-lt-of-le}
+use native.Mathlib.Omega.{arith}
+use lib.ListN.{length, getD, set, drop, length-map, length-append, length-set, List·getD-append}
+use lib.Seq.{getD-append-seam, getD-set-same, getD-set-other}
+use Rattle.words.specs.Places.{graphPlace}
+use Rattle.rules.specs.Graph.{State, Graph, blank, stateOf, to, acceptOf, earlyOf, orNone, graphFrom, graphFits, graphBuffer}
+use Rattle.rules.specs.Build.{renamed, relabel}
+use Rattle.rules.proofs.Fits.{Fits}
+use Rattle.rules.proofs.Flat.{from-to}
+use Rattle.rules.proofs.Rename.{led, relabel-to, relabel-accept, relabel-early}
+use Rattle.rules.proofs.Taken.{taken-few, taken-long}
+use Rattle.relabel.specs.Names.{namesOf, Moved, Zeroed}
+use Rattle.words.proofs.GraphWords.{accept-is, early-is}
+use Rattle.words.proofs.Buffers.{same-after, written}
+use Rattle.relabel.proofs.Rows.{renamed-is}
+
+-- row i is that of a state, renamed
+pub record Row (names : List ℕ) (st : State) (i : ℕ) (w : List ℕ) : Type 0 where
+  pub targets : (c : ℕ) → c < 257 → getD w (graphPlace i c) 0 ≡ Option·getD (led (namesOf names) (getD (st .steps) c none)) 65535
+  pub marks : getD w (graphPlace i 257) 0 ≡ Option·getD (st .accept) 255 + 256 * Option·getD (st .early) 255
+
+module _ (names : List ℕ) (st : State) (i : ℕ) (v w : List ℕ) where
+  -- it stays where its words do
+  row-stays : ((c : ℕ) → c < 258 → getD w (graphPlace i c) 0 ≡ getD v (graphPlace i c) 0) → Row names st i v → Row names st i w
+  row-stays same r = record { targets = λ c h. same c (omega arith) ∙ r .targets c h; marks = same 257 (omega arith) ∙ r .marks }
+
+-- w₀: the words at the beginning; rest: the states that stay, of those before s
+pub record Packed (names : List ℕ) (rest : List State) (s : ℕ) (w₀ w : List ℕ) : Type 0 where
+  pub len : length w ≡ length w₀
+  pub rows : (i : ℕ) → i < length rest → Row names (getD rest i blank) i w
+  pub others : (i : ℕ) → (i < 2) ⊎ (graphPlace s 0 ≤ i) → getD w i 0 ≡ getD w₀ i 0
+
+module _ (names : List ℕ) (w₀ : List ℕ) where
+  pub packed-none : Packed names [] 0 w₀ w₀
+  packed-none = record { len = refl; rows = λ i h. absurd (not-suc-le-zero h); others = λ i h. refl }
+
+  pub packed-skip : (rest : List State) (s : ℕ) (w : List ℕ) → Packed names rest s w₀ w → Packed names rest (s + 1) w₀ w
+  packed-skip rest s w p =
+      record { len = p .len; rows = p .rows; others = λ i h. p .others i (⊎-elim (λ l. inl l) (λ l. inr (omega arith)) h) }
+
+  module _ (taken : graphFits w₀ ≡ true) (rest : List State) (s : ℕ) (h : s < getD w₀ 0 0) (few : length rest ≤ s) (v w : List ℕ)
+      (p : Packed names rest s w₀ v) (m : Moved names s (length rest) v w) where
+    abbrev k : ℕ
+    k = length rest
+
+    abbrev all : List State
+    all = rest ++ (stateOf (graphFrom w₀) s ∷ [])
+
+    -- row s has not changed before it moves
+    before : (c : ℕ) → getD v (graphPlace s c) 0 ≡ getD w₀ (graphPlace s c) 0
+    before c = p .others (graphPlace s c) (inr (omega arith))
+
+    new-row : Row names (stateOf (graphFrom w₀) s) k w
+    unfolding to acceptOf earlyOf
+    new-row =
+        record {
+          targets = λ c b.
+              m .targets c b ∙ renamed-is names (getD v (graphPlace s c) 0)
+              ∙ ap (λ (o : Option ℕ). Option·getD (led (namesOf names) o) 65535) (ap (orNone 65535) (before c) ∙ sym (from-to w₀ (taken-long w₀ taken) s h c b));
+          marks =
+              let a = accept-is w₀ taken s h in
+              let b = early-is w₀ taken s h in
+              m .marks ∙ before 257 ∙ omega arith;
+        }
+
+    old-row : (i : ℕ) → i < k → Row names (getD all i blank) i w
+    old-row i l =
+        rw (List·getD-append rest (stateOf (graphFrom w₀) s ∷ []) blank i l)
+        (row-stays names (getD rest i blank) i v w (λ c b. m .others (graphPlace i c) (inl (omega arith))) (p .rows i l))
+
+    row-at : (i : ℕ) → i < length all → Row names (getD all i blank) i w
+    row-at i l =
+        let e : length all ≡ k + 1 = length-append rest (stateOf (graphFrom w₀) s ∷ []) in
+        let b : i ≤ k = omega arith in
+        ⊎-elim
+        (λ q. subst (λ (j : ℕ). Row names (getD all j blank) j w) (sym q) (rw (getD-append-seam rest (stateOf (graphFrom w₀) s) [] blank) new-row))
+        (λ q. old-row i q)
+        (eq-or-lt-of-le b)
+
+    pub packed-row : Packed names (rest ++ (stateOf (graphFrom w₀) s ∷ [])) (s + 1) w₀ w
+    packed-row =
+        record {
+          len = m .len ∙ p .len;
+          rows = row-at;
+          others = λ i o.
+              ⊎-elim (λ l. m .others i (inl (omega arith)) ∙ p .others i (inl l)) (λ l. m .others i (inr (omega arith)) ∙ p .others i (inr (omega arith))) o;
+        }
+
+-- ---- all rows have been passed, the vacated ones are zero, and count and root are written
+
+module _ (names : List ℕ) (w₀ : List ℕ) (taken : graphFits w₀ ≡ true) (rest : List State) (root : ℕ)
+    (fits : Fits 255 (getD w₀ 0 0) (relabel (namesOf names) rest root)) (few : length rest ≤ getD w₀ 0 0)
+    (v w : List ℕ) (p : Packed names rest (getD w₀ 0 0) w₀ v) (z : Zeroed (graphPlace (length rest) 0) (graphPlace (getD w₀ 0 0) 0) v w) where
+  abbrev n : ℕ
+  n = getD w₀ 0 0
+
+  abbrev new : Graph
+  new = relabel (namesOf names) rest root
+
+  abbrev final : List ℕ
+  final = set (set w 0 (length rest)) 1 (new .root)
+
+  long : 2 + 258 * n ≤ length w
+  long = let a = p .len in let b = z .len in omega (arith, taken-long w₀ taken)
+
+  final-length : length final ≡ length w
+  final-length = length-set (set w 0 (length rest)) 1 (new .root) ∙ length-set w 0 (length rest)
+
+  -- past the root the words are those before
+  past : (i : ℕ) → 2 ≤ i → getD final i 0 ≡ getD w i 0
+  past i h =
+      getD-set-other (set w 0 (length rest)) 1 i (new .root) 0 (λ q. let e : i ≡ 1 = q in omega arith)
+      ∙ getD-set-other w 0 i (length rest) 0 (λ q. let e : i ≡ 0 = q in omega arith)
+
+  kept-row : (i : ℕ) → i < length rest → Row names (getD rest i blank) i final
+  kept-row i h =
+      row-stays names (getD rest i blank) i v final (λ c b. past (graphPlace i c) (omega arith) ∙ z .others (graphPlace i c) (inl (omega arith))) (p .rows i h)
+
+  size : length (new .states) ≡ length rest
+  unfolding relabel
+  size = length-map rest (renamed (namesOf names))
+
+  after : drop (2 + 258 * n) final ≡ drop (2 + 258 * n) w₀
+  after =
+      same-after (2 + 258 * n) w₀ final (final-length ∙ z .len ∙ p .len)
+      (λ i h. past i (omega arith) ∙ z .others i (inr (omega arith)) ∙ p .others i (inr (omega arith)))
+
+  pub packed-all : set (set w 0 (length rest)) 1 (relabel (namesOf names) rest root .root)
+      ≡ graphBuffer (getD w₀ 0 0) (relabel (namesOf names) rest root) ++ drop (2 + 258 * getD w₀ 0 0) w₀
+  packed-all =
+      let l = long in
+      let e = size in
+      let fl = final-length in
+      rw (← after)
+      (written 255 n (omega arith) (taken-few w₀ taken) new fits final (omega arith)
+      (getD-set-other (set w 0 (length rest)) 1 0 (new .root) 0 (λ q. let y : 0 ≡ 1 = q in omega arith) ∙ getD-set-same w 0 (length rest) 0 (omega arith) ∙ sym e)
+      (getD-set-same (set w 0 (length rest)) 1 (new .root) 0 (let y = length-set w 0 (length rest) in omega arith))
+      (λ i c h b. kept-row i (omega arith) .targets c b ∙ ap (λ (o : Option ℕ). Option·getD o 65535) (sym (relabel-to (namesOf names) rest root i c)))
+      (λ i h.
+      let a = relabel-accept (namesOf names) rest root i in
+      let b = relabel-early (namesOf names) rest root i in
+      kept-row i (omega arith) .marks ∙ rw (a, b))
+      (λ i h k. past i (omega arith) ∙ z .zeros i (omega arith) (omega arith)))

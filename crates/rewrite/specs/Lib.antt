@@ -1,3 +1,0 @@
-pub mod Matrix
-pub mod Names
-pub mod Equals

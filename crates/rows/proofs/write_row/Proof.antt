@@ -1,0 +1,176 @@
+-- The first c words of the row stand in their places, and the others are as found. The measure is the targets that are left. Assumes nothing.
+use mathlib.Core.Path.{_≡_, refl, sym, ap, _∙_}
+use mathlib.Core.List.{List}
+use Prim.Native.Nat.{ℕ, _+_, _-_, _*_, _≤_, _<_}
+use native.Mathlib.Omega.{arith}
+use lib.ListN.{length, getD, set, take, length-set}
+use lib.Seq.{sets, take-all}
+use Rattle.lists.proofs.Runs.{sets-take}
+use Rattle.rules.specs.Table.{tableOf}
+use Rattle.words.specs.Places.{graphPlace, rowPlace}
+use Rattle.legal.specs.Conditions.{targetWord, Sized}
+use Rattle.rows.specs.Renumbering.{newTarget, newRow}
+use Rattle.legal.proofs.Legal.{legal-sized, legal-means}
+use Rattle.rows.proofs.NewRows.{row-length, row-target, row-marks, leaf-low}
+use Rattle.rows.proofs.write_row.Statement.{statement}
+use Rattle.rows.proofs.write_row.Tie as tie
+
+abbrev Inv-loop : tie.InvT-loop
+Inv-loop table s numbers graph₀ k m c₀ graph c =
+    (c ≤ 257) × (length graph ≡ length graph₀) × (graph ≡ sets graph₀ (graphPlace k 0) (take c (newRow (tableOf table) numbers s)))
+
+abbrev μ-loop : tie.MeasureT-loop
+μ-loop table s numbers graph₀ k m c₀ graph c = 257 - c
+
+-- ---- what is known at each place
+
+module _ (at : tie.At-loop Inv-loop μ-loop) where
+  abbrev begin : tie.Start Inv-loop μ-loop
+  begin = at .before .before .before .before
+
+  abbrev words : List ℕ
+  words = begin .args .table .now
+
+  abbrev row : List ℕ
+  row = newRow (tableOf words) (begin .args .numbers .now) (begin .args .s)
+
+  sized : Sized words
+  sized = legal-sized words (begin .pre .0)
+
+  long : length row ≡ 258
+  long = row-length words sized (begin .args .numbers .now) (begin .args .s) (begin .pre .1 .0)
+
+module _ (c : tie.After-row-word Inv-loop μ-loop) where
+  -- the target that a turn looks at
+  target-is : c .row-word .result ≡ targetWord (words (c .before .before)) (begin (c .before .before) .args .s) (c .before .before .loop .c)
+  target-is =
+      let at = c .before .before in
+      c .row-word .ensures .0 ∙ ap (λ (m : ℕ). getD (words at) (rowPlace m (begin at .args .s) (at .loop .c)) 0) (at .before .leaves .ensures .0)
+
+  target-below : c .row-word .result < 1024
+  target-below =
+      let at = c .before .before in
+      let z = sized at in
+      let e = target-is in
+      let b = legal-means (words at) (begin at .pre .0) .targets (begin at .args .s) (at .loop .c) (begin at .pre .1 .0) (omega arith) in
+      omega arith
+
+  -- and the word that it writes
+  word-is : newTarget (begin (c .before .before) .args .numbers .now) (c .row-word .result) ≡ getD (row (c .before .before)) (c .before .before .loop .c) 0
+  word-is =
+      let at = c .before .before in
+      ap (newTarget (begin at .args .numbers .now)) target-is
+      ∙ sym (row-target (words at) (sized at) (begin at .args .numbers .now) (begin at .args .s) (begin at .pre .1 .0) (at .loop .c) (omega arith))
+
+leaves-requires : tie.Need-leaves-requires Inv-loop μ-loop
+leaves-requires c κs =
+    let z = legal-sized (c .before .before .args .table .now) (c .before .before .pre .0) in omega arith
+
+loop-holds : tie.Need-loop-holds Inv-loop μ-loop
+loop-holds c = (omega arith, refl, refl)
+
+row-word-requires : tie.Need-row-word-requires Inv-loop μ-loop
+row-word-requires c κs = let z = sized (c .before) in omega arith
+
+place-requires : tie.Need-place-requires Inv-loop μ-loop
+place-requires c κs = omega arith
+
+new-target-requires : tie.Need-new-target-requires Inv-loop μ-loop
+new-target-requires c κs = omega (arith, target-below (c .before))
+
+mul-graph : tie.Need-mul-graph Inv-loop μ-loop
+mul-graph c = omega arith
+
+slice-write-graph : tie.Need-slice-write-graph Inv-loop μ-loop
+slice-write-graph c = omega arith
+
+add-c : tie.Need-add-c Inv-loop μ-loop
+add-c c = omega arith
+
+loop-less : tie.Need-loop-less Inv-loop μ-loop
+loop-less c = omega arith
+
+loop-again : tie.Need-loop-again Inv-loop μ-loop
+loop-again c =
+    let at = c .before .before .before .before in
+    let g = begin at .args .graph .now in
+    let p = graphPlace (begin at .args .k) 0 in
+    let i = c .before .place .result in
+    let v = c .new-target .result in
+    let l = long at in (
+      omega arith,
+      length-set (at .loop .graph) i v ∙ at .loop .inv .1,
+      ap (λ (x : List ℕ). set x i v) (at .loop .inv .2)
+          ∙ ap (λ (x : ℕ). set (sets g p (take (at .loop .c) (row at))) i x) (c .new-target .ensures ∙ word-is (c .before .before))
+          ∙ sets-take g p (row at) (at .loop .c) 0 i (omega arith) (omega arith),
+    )
+
+place-requires-2 : tie.Need-place-requires-2 Inv-loop μ-loop
+place-requires-2 c κs = omega arith
+
+leaf-of-requires : tie.Need-leaf-of-requires Inv-loop μ-loop
+leaf-of-requires c κs = let b = begin (c .before .before) in (b .pre .0, b .pre .1 .0)
+
+mul-graph-2 : tie.Need-mul-graph-2 Inv-loop μ-loop
+mul-graph-2 c = omega arith
+
+add-graph : tie.Need-add-graph Inv-loop μ-loop
+add-graph c =
+    let at = c .before .before .before in let e = leaf-low (words at) (begin at .pre .0) (begin at .args .s) in omega arith
+
+cast-graph : tie.Need-cast-graph Inv-loop μ-loop
+cast-graph c =
+    let at = c .before .before .before in let e = leaf-low (words at) (begin at .pre .0) (begin at .args .s) in omega arith
+
+mul-graph-3 : tie.Need-mul-graph-3 Inv-loop μ-loop
+mul-graph-3 c = omega arith
+
+slice-write-graph-2 : tie.Need-slice-write-graph-2 Inv-loop μ-loop
+slice-write-graph-2 c = omega arith
+
+same-length : tie.Need-same-length Inv-loop μ-loop
+same-length c =
+    let at = c .before .before .before in length-set (at .loop .graph) (c .before .place2 .result) (c .leaf-of .result + 256 * 255) ∙ at .loop .inv .1
+
+returns : tie.Need-returns Inv-loop μ-loop
+returns c =
+    let at = c .before .before .before in
+    let g = begin at .args .graph .now in
+    let p = graphPlace (begin at .args .k) 0 in
+    let i = c .before .place2 .result in
+    let v = c .leaf-of .result + 256 * 255 in
+    let l = long at in
+    let whole : take (at .loop .c + 1) (row at) ≡ row at = take-all (at .loop .c + 1) (row at) (omega arith) in
+    let last : at .loop .c ≡ 257 = omega arith in
+    ap (λ (x : List ℕ). set x i v) (at .loop .inv .2)
+    ∙ ap (λ (x : ℕ). set (sets g p (take (at .loop .c) (row at))) i x)
+    (ap (λ (x : ℕ). x + 256 * 255) (c .leaf-of .ensures) ∙ sym (row-marks (words at) (sized at) (begin at .args .numbers .now) (begin at .args .s) (begin at .pre .1 .0))
+    ∙ ap (λ (x : ℕ). getD (row at) x 0) (sym last))
+    ∙ sets-take g p (row at) (at .loop .c) 0 i (omega arith) (omega arith)
+    ∙ ap (sets g p) whole
+
+pub write-row-spec : {M : Type 1} → statement M
+write-row-spec =
+    tie.close
+    (tie.spec
+    Inv-loop
+    μ-loop
+    leaves-requires
+    loop-holds
+    row-word-requires
+    place-requires
+    new-target-requires
+    mul-graph
+    slice-write-graph
+    add-c
+    loop-less
+    loop-again
+    place-requires-2
+    leaf-of-requires
+    mul-graph-2
+    add-graph
+    cast-graph
+    mul-graph-3
+    slice-write-graph-2
+    same-length
+    returns)

@@ -1,0 +1,95 @@
+// Rules 2 to 4: the first rows of the graph. The reached states are renumbered in ascending order, steps to state 0 are dropped, and each state
+// accepts its leaf.
+ghost use mathlib.Core.Path.{_≡_};
+ghost use mathlib.Core.Bool.{false};
+ghost use mathlib.Core.List.{_++_};
+ghost use Prim.Native.Nat.{ℕ, _+_, _*_, _-_, _<_, _≤_};
+ghost use lib.ListN.{length, getD, take, drop, replicate};
+ghost use lib.Seq.{sets};
+ghost use Rattle.lists.specs.Sets.{count};
+ghost use Rattle.rules.specs.Build.{reached};
+ghost use Rattle.rules.specs.Graph.{graphBuffer};
+ghost use Rattle.rules.specs.Table.{refusal, tableOf};
+ghost use Rattle.words.specs.Places.{graphPlace};
+ghost use Rattle.rows.specs.Renumbering.{firstGraph, newTarget, newRow};
+use leaves::leaf_of;
+use words::graph::place;
+use words::graph::set_head;
+use words::table::leaves;
+use words::table::row_word;
+use words::table::states;
+use words::zero;
+
+// Of each state up to n, the number of states in the set before it.
+fn numbers(set: &[bool; 1024], n: usize) -> [u16; 1025]
+    requires { ⌜ n ≤ 1024 ⌝ }
+    ensures { λ r. ⌜ ((s : ℕ) → s ≤ n → getD r s 0 ≡ count (take s (now (set .entry)))) ⌝ }
+{
+    let mut out = [0u16; 1025];
+    let mut k: u16 = 0;
+    let mut s: usize = 0;
+    while s < n {
+        if set[s] {
+            k += 1;
+        }
+        s += 1;
+        out[s] = k;
+    }
+    out
+}
+
+// The word of a target u.
+fn new_target(numbers: &[u16; 1025], u: usize) -> u16
+    requires { ⌜ u < 1025 ⌝ }
+    ensures { λ r. ⌜ r ≡ newTarget (now (numbers .entry)) u ⌝ }
+{
+    if u == 0 {
+        return 65535;
+    }
+    numbers[u]
+}
+
+// Writes the row of state s as that of state k of the graph.
+fn write_row(table: &[u16], s: usize, numbers: &[u16; 1025], graph: &mut [u16], k: usize)
+    requires { ⌜ refusal (now table) ≡ 0 ⌝ }
+    requires { ⌜ s < getD (now table) 0 0 ⌝ }
+    requires { ⌜ k < 1024 ⌝ }
+    requires { ⌜ graphPlace k 258 ≤ length (now graph) ⌝ }
+    ensures { λ _. ⌜ now (graph .exit) ≡ sets (now (graph .entry)) (graphPlace k 0) (newRow (tableOf (now (table .entry))) (now (numbers .entry)) s) ⌝ }
+{
+    let m = leaves(table);
+    let mut c: usize = 0;
+    while c < 257 {
+        let u = row_word(table, m, s, c);
+        let at = place(k, c);
+        graph[at] = new_target(numbers, u);
+        c += 1;
+    }
+    let at = place(k, 257);
+    graph[at] = (leaf_of(table, s) + 256 * 255) as u16;
+}
+
+// Writes the graph of the set of reached states; the words after it, up to those of n states, become 0. The answer is its number of states.
+pub fn write(table: &[u16], start: usize, set: &[bool; 1024], graph: &mut [u16]) -> usize
+    requires { ⌜ refusal (now table) ≡ 0 ⌝ }
+    requires { ⌜ start < getD (now table) 0 0 ⌝ }
+    requires { ⌜ now set ≡ reached (tableOf (now table)) start ++ replicate (1024 - getD (now table) 0 0) false ⌝ }
+    requires { ⌜ 2 + 258 * getD (now table) 0 0 ≤ length (now graph) ⌝ }
+    ensures { λ r. ⌜ r ≡ length (firstGraph (tableOf (now (table .entry))) start .states) ⌝ }
+    ensures { λ _. ⌜ now (graph .exit) ≡ graphBuffer (getD (now (table .entry)) 0 0) (firstGraph (tableOf (now (table .entry))) start) ++ drop (2 + 258 * getD (now (table .entry)) 0 0) (now (graph .entry)) ⌝ }
+{
+    let n = states(table);
+    let new = numbers(set, n);
+    set_head(graph, new[n], new[start]);
+    let mut k: usize = 0;
+    let mut s: usize = 0;
+    while s < n {
+        if set[s] {
+            write_row(table, s, &new, graph, k);
+            k += 1;
+        }
+        s += 1;
+    }
+    zero(graph, place(k, 0), place(n, 0));
+    k
+}

@@ -1,0 +1,5 @@
+pub mod Scans
+pub mod Entries
+pub mod Filling
+pub mod ListAnswers
+pub mod EndToEnd

@@ -1,5 +1,0 @@
-pub mod Conditions
-pub mod Chains
-pub mod Renumbering
-pub mod Slots
-pub mod Listed

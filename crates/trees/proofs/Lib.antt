@@ -1,0 +1,4 @@
+pub mod KindRules
+pub mod TreeLaws
+pub mod Naming
+pub mod Check

@@ -1,0 +1,3 @@
+pub mod LeadBytes
+pub mod Division
+pub mod Dividing
