@@ -1,24 +1,25 @@
 -- Clean tables both ways (`clean-means`, `clean-shown`): a legal table that the test finds clean is `Clean`, and one that is `Clean` is found so.
 -- Each rule goes by its own test: where it is broken at no state, it holds, and the other way round. Assumes nothing.
-use mathlib.Core.Path.{_≡_, refl, sym, ap, subst, _∙_}
-use mathlib.Core.Bool.{Bool, true, false, cond, _&&_, false≢true}
+use mathlib.Core.Path.{_≡_, refl, sym, ap, _∙_}
+use mathlib.Core.Bool.{Bool, true, false, cond, false≢true}
 use mathlib.Core.List.{List, [], _∷_, map}
 use mathlib.Core.Option.{Option, none, some}
-use Prim.Native.Nat.{ℕ, zero, suc, _<_, zero-le, suc-le-suc}
+use Prim.Native.Nat.{ℕ, _<_}
 use native.Mathlib.Omega.{arith}
 use borrow.Author.Tests.{eqb-true, eq-eqb}
 use lib.Dec.{eqb}
 use lib.ListN.{length, getD, take, length-map}
 use lib.Seq.{length-take-le, getD-take}
 use Rattle.lists.specs.Sets.{In}
-use Rattle.lists.specs.Lists.{allL, below, those, select, eqOption}
+use Rattle.lists.specs.Lists.{allL, below, those, select}
 use Rattle.lists.proofs.Bools.{Is, is, yes-is, no-is, and-both, and-intro, none-some}
-use Rattle.lists.proofs.Elements.{all-at, all-intro, length-tab, getD-tab0, map-at, option-sound}
+use Rattle.lists.proofs.Elements.{length-nil, all-at, all-intro, length-tab, getD-tab0, map-at}
 use Rattle.lists.proofs.Selections.{none-passes, passes-none}
 use Rattle.rules.specs.Table.{Table, tableOf, refusal, size, rowOf, step}
 use Rattle.rules.specs.Build.{Error, build, chain, leafOf, reached, present, agreed}
-use Rattle.rules.specs.Read.{Orderly, Clean}
-use Rattle.rules.specs.Clean.{Breach, first, reachedFrom, firstError, errorAt, zeroDead, zeroAt, bytesLeaf, endless, endAt, firstBreach, breach, unbroken, isClean}
+use Rattle.rules.specs.Read.{Clean}
+use Rattle.rules.specs.Clean.{first, reachedFrom, firstError, errorAt, zeroDead, zeroAt, bytesLeaf, endless, endAt, firstBreach, breach, unbroken, isClean}
+use Rattle.rules.proofs.Agreed.{agreed-at, agreed-all}
 use Rattle.rules.proofs.Shape.{Shaped, legal-shaped, some-state, size-is}
 use Rattle.rules.proofs.Unpruned.{reached-below}
 
@@ -29,10 +30,6 @@ all-unbroken none none (some s) e = absurd (false≢true e)
 all-unbroken none (some s) c e = absurd (false≢true e)
 all-unbroken (some s) b c e = absurd (false≢true e)
 
-length-nil : (l : List ℕ) → length l ≡ 0 → l ≡ []
-length-nil [] e = refl
-length-nil (x ∷ l) e = absurd (omega arith)
-
 first-none : (l : List ℕ) → first l ≡ none → l ≡ []
 first-none [] e = refl
 first-none (s ∷ l) e = absurd (none-some (sym e))
@@ -42,25 +39,6 @@ first-none (s ∷ l) e = absurd (none-some (sym e))
 no-errors : (t : Table) (errors : List Error) → firstError t errors ≡ none → errors ≡ []
 no-errors t [] e = refl
 no-errors t (x ∷ errors) e = absurd (none-some (sym e))
-
--- ---- a leaf that all have
-
-agreed-all : (l : List (Option ℕ)) (k : ℕ) → agreed l ≡ some k → (i : ℕ) → i < length l → getD l i none ≡ some k
-agreed-all (o ∷ l) k e i h = go (is (allL (eqOption o) l)) i h
-  where
-    go : Is (allL (eqOption o) l) → (i : ℕ) → i < length (o ∷ l) → getD (o ∷ l) i none ≡ some k
-    go (no-is q) i h = absurd (none-some (rw q at e))
-    go (yes-is q) zero h = rw q at e
-    go (yes-is q) (suc i) h = sym (option-sound .eq o _ (all-at (eqOption o) l i none q (omega arith))) ∙ (rw q at e)
-agreed-all [] k e i h = absurd (none-some e)
-
-all-agreed : (l : List (Option ℕ)) (k : ℕ) → 0 < length l → ((i : ℕ) → i < length l → getD l i none ≡ some k) → agreed l ≡ some k
-all-agreed [] k z f = absurd (omega arith)
-all-agreed (o ∷ l) k z f =
-    let h : o ≡ some k = f 0 z in
-    let a : allL (eqOption o) l ≡ true =
-    all-intro (eqOption o) l none (λ i b. ap (eqOption o) (f (suc i) (suc-le-suc b) ∙ sym h) ∙ option-sound .self o) in
-    rw a h
 
 present-some : (o : Option ℕ) → present o ≡ true → (l : ℕ) × (o ≡ some l)
 present-some none e = absurd (false≢true e)
@@ -82,16 +60,16 @@ module _ (t : Table) (sh : Shaped t) where
   -- ---- rule 3
 
   module _ (s : ℕ) (h : s < size t) where
-    abbrev byteLeaves : List (Option ℕ)
+    abbrev pub byteLeaves : List (Option ℕ)
     byteLeaves = map (leafOf t) (take 256 (rowOf t s .steps))
 
     byte-count : length (take 256 (rowOf t s .steps)) ≡ 256
     byte-count = let w = sh .width s h in length-take-le 256 (rowOf t s .steps) (omega arith)
 
-    byte-leaves : length byteLeaves ≡ 256
+    pub byte-leaves : length byteLeaves ≡ 256
     byte-leaves = length-map (take 256 (rowOf t s .steps)) (leafOf t) ∙ byte-count
 
-    byte-leaf : (b : ℕ) → b < 256 → getD byteLeaves b none ≡ leafOf t (step t s b)
+    pub byte-leaf : (b : ℕ) → b < 256 → getD byteLeaves b none ≡ leafOf t (step t s b)
     unfolding step
     byte-leaf b k =
         let n = byte-count in
@@ -103,13 +81,13 @@ module _ (t : Table) (sh : Shaped t) where
         let (p, z) = and-both (present (agreed byteLeaves)) _ e in
         let (l, q) = present-some (agreed byteLeaves) p in
         let n = byte-leaves in
-        (l, λ b k. sym (byte-leaf b k) ∙ agreed-all byteLeaves l q b (omega arith), eqb-true (step t s 256) 0 z)
+        (l, λ b k. sym (byte-leaf b k) ∙ agreed-at byteLeaves l q b (omega arith), eqb-true (step t s 256) 0 z)
 
     pub endless-shown : (l : ℕ) → ((b : ℕ) → b < 256 → leafOf t (step t s b) ≡ some l) → step t s 256 ≡ 0 → endless t s ≡ true
     unfolding endless bytesLeaf
     endless-shown l f z =
         let n = byte-leaves in
-        let q : agreed byteLeaves ≡ some l = all-agreed byteLeaves l (omega arith) (λ b k. let k′ : b < 256 = omega arith in byte-leaf b k′ ∙ f b k′) in
+        let q : agreed byteLeaves ≡ some l = agreed-all byteLeaves (some l) (omega arith) (λ b k. let k′ : b < 256 = omega arith in byte-leaf b k′ ∙ f b k′) in
         and-intro (present (agreed byteLeaves)) _ (ap present q) (eq-eqb (step t s 256) 0 z)
 
     -- a state that the table reaches is not endless, just if the third rule holds of it

@@ -1,14 +1,13 @@
 -- `FromRoot` held from both sides: a state of the set that computes is reached from the root (`computed-reached`), and a state that is reached is in that
 -- set (`reached-computed`). A number that no state has may be led to, but leads nowhere, so no way goes through it. Assumes nothing.
-use mathlib.Core.Path.{_≡_, refl, subst}
-use mathlib.Core.Option.{some}
+use mathlib.Core.Path.{refl, subst}
 use Prim.Native.Nat.{ℕ, _<_}
 use borrow.Author.Tests.{eqb-true, eq-eqb}
 use lib.Dec.{eqb}
 use lib.ListN.{length}
 use Rattle.lists.specs.Sets.{In, Reach, from-seed, by-edge}
 use Rattle.lists.proofs.Closure.{closure-sound, closure-seed, closure-closed}
-use Rattle.rules.specs.Graph.{Graph, stateOf, to, leads, FromRoot, at-root, on-edge, reachedStates}
+use Rattle.rules.specs.Graph.{Graph, stateOf, leads, FromRoot, at-root, on-edge, reachedStates}
 use Rattle.rules.proofs.Views.{edge-within, edge-leads, leads-edge}
 
 module _ (g : Graph) where

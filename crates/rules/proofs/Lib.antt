@@ -4,6 +4,7 @@ pub mod Nones
 pub mod Rename
 pub mod Merge
 pub mod Prune
+pub mod Agreed
 pub mod Marks
 pub mod Shape
 pub mod Alike
@@ -12,6 +13,7 @@ pub mod Reached
 pub mod FromRoot
 pub mod Fits
 pub mod Words
+pub mod LeafWords
 pub mod Flat
 pub mod Taken
 pub mod Cleanness
