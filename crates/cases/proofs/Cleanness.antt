@@ -13,7 +13,7 @@ use Rattle.cases.specs.Answers.{graphOf}
 use Rattle.cases.specs.Table.{k1, k4}
 use Rattle.cases.specs.Cleanness.{cleanNumbers, zeroBack, zeroLeaf, cleanness}
 
-pub all-told : (length cleanness ≡ 14) × (map (λ c. c .got) cleanness ≡ map (λ c. c .wanted) cleanness)
+pub all-told : (length cleanness ≡ 15) × (map (λ c. c .got) cleanness ≡ map (λ c. c .wanted) cleanness)
 unfolding cleanness k1 k4 zeroBack zeroLeaf cleanNumbers
 all-told = (refl, refl)
 
@@ -23,7 +23,7 @@ zero-back-states : length (build (tableOf zeroBack) .graph .states) ≡ 2
 unfolding zeroBack graphOf
 zero-back-states = refl
 
-zero-back-root : build (tableOf zeroBack) .graph .root ≡ 1
+pub zero-back-root : build (tableOf zeroBack) .graph .root ≡ 1
 unfolding zeroBack graphOf
 zero-back-root = refl
 

@@ -1,21 +1,16 @@
--- Tables that are clean and tables that are not, a row each: the refusal, the rule that is broken and the state where, as the definitions answer them
--- and as document 01's "Clean means" has them. The answer unfolds all that it computes with.
+-- Tables that are clean and tables that are not, a row each: what the call `clean` tells (the refusal, the rule that is broken, the state where), and
+-- what document 01's "Clean means" says. The answer unfolds all that it computes with.
 use mathlib.Core.List.{List, [], _∷_, _++_}
-use mathlib.Core.Option.{Option, none, some}
 use Prim.Native.Nat.{ℕ}
 use lib.ListN.{replicate}
-use Rattle.rules.specs.Table.{tableOf}
-use Rattle.rules.specs.Clean.{Breach, tied, errorAt, zeroDead, zeroAt, bytesLeaf, endless, endAt, breach}
-use Rattle.cases.specs.Answers.{refusalOf, graphOf}
+use Rattle.rules.specs.Clean.{tied, errorAt, zeroDead, zeroAt, bytesLeaf, endless, endAt, breach}
+use Rattle.clean.specs.Answers.{cleanOf, cleanTold}
+use Rattle.cases.specs.Answers.{numbers, refusalOf, graphOf}
 use Rattle.cases.specs.Table.{Case, case, by, all, k1, k4}
 
-abbrev pub breachNumbers : Option Breach → List ℕ
-breachNumbers none = 0 ∷ 0 ∷ []
-breachNumbers (some b) = b .rule ∷ b .state ∷ []
-
 unfoldable pub cleanNumbers : List ℕ → List ℕ
-unfolding refusalOf graphOf tied errorAt zeroDead zeroAt bytesLeaf endless endAt breach
-cleanNumbers w = refusalOf w ++ breachNumbers (breach (tableOf w))
+unfolding refusalOf graphOf tied errorAt zeroDead zeroAt bytesLeaf endless endAt breach cleanOf
+cleanNumbers w = numbers (cleanTold (cleanOf w))
 
 -- ---- table words
 
@@ -51,8 +46,9 @@ zeroLeaf = 2 ∷ 1 ∷ 1 ∷ 1 ∷ 2 ∷ 0 ∷ 0 ∷ (all 0 1 ++ (all 1 0 ++ 0 �
 
 unfoldable pub cleanness : List Case
 cleanness =
-    -- K1 is clean
+    -- K1 is clean; its first four words alone are refused
     case (cleanNumbers k1) (0 ∷ 0 ∷ 0 ∷ [])
+    ∷ case (cleanNumbers (4 ∷ 1 ∷ 1 ∷ 1 ∷ [])) (3 ∷ 0 ∷ 0 ∷ [])
     -- rule 1: K4's tie in state 2; ties in states 2 and 3, of which 3 is reached, and neither
     ∷ case (cleanNumbers k4) (0 ∷ 1 ∷ 2 ∷ [])
     ∷ case (cleanNumbers (ties 0 (by 97 3))) (0 ∷ 1 ∷ 3 ∷ [])

@@ -21,7 +21,7 @@ use words::table::states;
 pub enum Verdict {
     Clean,
     Breaks(u16, u16),
-    Refused(u16),
+    Refused(u8),
 }
 
 // Each state's leaf; 255 if it has none.
@@ -167,7 +167,7 @@ pub fn clean(table: &[u16]) -> Verdict
 {
     let refusal = legal::check(table);
     if refusal != 0 {
-        return Verdict::Refused(refusal as u16);
+        return Verdict::Refused(refusal as u8);
     }
     let s = start(table);
     if s == 65535 {
