@@ -1,2 +1,3 @@
 pub mod Cases
 pub mod Instance
+pub mod Cleanness

@@ -1,42 +1,23 @@
 -- Rule 5 on words: the leaf that all children of a state have, from the leaf that each edge leads to. Assumes nothing.
 use mathlib.Core.Path.{_≡_, refl, sym, ap, _∙_}
-use mathlib.Core.Bool.{true, cond}
+use mathlib.Core.Bool.{true}
 use mathlib.Core.List.{List, [], _∷_, _++_, map, append-nil}
 use mathlib.Core.Option.{Option, none, some, Option·getD}
 use mathlib.Core.Logic.{⊎-elim}
-use Prim.Native.Nat.{ℕ, zero, suc, _+_, _*_, _%_, _≤_, _<_, suc-le-suc}
-use native.Mathlib.Nat.{not-suc-le-zero, le-of-suc-le-suc}
+use Prim.Native.Nat.{ℕ, _+_, _*_, _%_, _≤_, _<_}
 use native.Mathlib.Omega.{arith}
 use lib.ListN.{length, getD, take, drop, length-map, take-append-drop, drop-of-length-le, List·getD-map}
 use lib.Seq.{drop-cons, length-take-le, getD-take, ext-getD}
-use Rattle.lists.specs.Lists.{allL, eqOption}
-use Rattle.lists.proofs.Bools.{Is, is, yes-is, no-is, none-some, lt-or-le}
-use Rattle.lists.proofs.Elements.{all-intro, all-at, option-sound}
+use Rattle.lists.proofs.Bools.{none-some, lt-or-le}
 use Rattle.rules.specs.Graph.{State, Graph, stateOf, to, acceptOf, earlyOf, orNone, graphFrom, graphFits}
 use Rattle.rules.specs.Build.{children, acceptBy, agreed, withEarly}
 use Rattle.rules.proofs.Flat.{from-to, from-accept, from-length, from-width}
+use Rattle.rules.proofs.Agreed.{agreed-all, agreed-none}
 use Rattle.rules.proofs.Marks.{early-early}
 use Rattle.rules.proofs.Taken.{taken-long}
 use Rattle.rules.proofs.Views.{out-accept}
 use Rattle.rules.proofs.Nones.{word-inj}
 use Rattle.words.proofs.GraphWords.{accept-leaf}
-
--- ---- lists of leaves
-
-pub agreed-all : (l : List (Option ℕ)) (x : Option ℕ) → 0 < length l → ((i : ℕ) → i < length l → getD l i none ≡ x) → agreed l ≡ x
-agreed-all [] x h f = absurd (not-suc-le-zero h)
-agreed-all (o ∷ l) x h f =
-    let e : o ≡ x = f 0 (omega arith) in
-    rw (all-intro (eqOption o) l none (λ i b. ap (eqOption o) (f (suc i) (suc-le-suc b) ∙ sym e) ∙ option-sound .self o)) e
-
-pub agreed-none : (l : List (Option ℕ)) (i : ℕ) → i < length l → (getD l i none ≡ getD l 0 none → ⊥) → agreed l ≡ none
-agreed-none [] i h n = refl
-agreed-none (o ∷ l) zero h n = absurd (n refl)
-agreed-none (o ∷ l) (suc i) h n = go (is (allL (eqOption o) l))
-  where
-    go : Is (allL (eqOption o) l) → cond (allL (eqOption o) l) o none ≡ none
-    go (yes-is q) = absurd (n (sym (option-sound .eq o (getD l i none) (all-at (eqOption o) l i none q (le-of-suc-le-suc h)))))
-    go (no-is q) = rw q
 
 -- ---- the children of a row of 257
 

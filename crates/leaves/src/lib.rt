@@ -14,7 +14,7 @@ use words::table::row_word;
 use words::table::states;
 
 // The head of state s's chain.
-fn head(table: &[u16], s: usize) -> usize
+pub fn head(table: &[u16], s: usize) -> usize
     requires { ⌜ refusal (now table) ≡ 0 ⌝ }
     requires { ⌜ s < getD (now table) 0 0 ⌝ }
     ensures { λ r. ⌜ (r ≡ rowOf (tableOf (now (table .entry))) s .head) × (r ≤ getD (now (table .entry)) 3 0) ⌝ }

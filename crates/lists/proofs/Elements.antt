@@ -13,6 +13,14 @@ use lib.ListN.{length, getD, set, drop, replicate}
 use Rattle.lists.specs.Lists.{tab, allL, eqList, eqOption}
 use Rattle.lists.proofs.Bools.{Is, is, yes-is, no-is, and-both, and-intro, and-right-false}
 
+-- a list with an element is not empty
+pub nil-cons : {A : Type 0} {x : A} {l : List A} → _≡_ {A = List A} (x ∷ l) [] → ⊥
+nil-cons e = let z : _≡_ {A = ℕ} 0 1 = cc in omega arith
+
+pub length-nil : {A : Type 0} (l : List A) → length l ≡ 0 → l ≡ []
+length-nil [] e = refl
+length-nil (x ∷ l) e = absurd (omega arith)
+
 -- ---- lists made of a function
 
 module _ {A : Type 0} where

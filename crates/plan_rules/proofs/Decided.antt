@@ -11,7 +11,7 @@ use lib.Dec.{eqb, leb, ltb}
 use lib.ListN.{length, take, drop, replicate, length-append, take-append-drop}
 use Rattle.lists.specs.Lists.{below, anyL, allL, eqList}
 use Rattle.lists.proofs.Bools.{Is, yes-is, no-is, is, and-both, and-intro, or-cases, bool-ext}
-use Rattle.lists.proofs.Elements.{eqb-sound, list-sound}
+use Rattle.lists.proofs.Elements.{eqb-sound, list-sound, length-nil}
 use Rattle.rules.specs.Graph.{State, Graph, stateOf}
 use Rattle.classes.specs.Classes.{Class}
 use Rattle.mask_store.specs.declared.MaskStore.{MaskStore}
@@ -89,12 +89,8 @@ module _ (set : Settings) (sane : Sane set) (g : Graph) (words : List ℕ) (stor
   none-added e =
       let (m, split) = met-split (held store) (needs set g) in
       let short : length m ≡ 0 = omega (arith, ap length split, length-append (held store) m, length-held store) in
-      let same : met (held store) (needs set g) ≡ held store = split ∙ ap (λ (l : List Class). held store ++ l) (empty m short) ∙ append-nil (held store) in
+      let same : met (held store) (needs set g) ≡ held store = split ∙ ap (λ (l : List Class). held store ++ l) (length-nil m short) ∙ append-nil (held store) in
       ap (λ (l : List Class). allL (among l) (needs set g)) (sym same) ∙ met-has (held store) (needs set g)
-    where
-      empty : (m : List Class) → length m ≡ 0 → m ≡ []
-      empty [] e = refl
-      empty (c ∷ m) e = absurd (omega arith)
 
   -- the classes of a plan whose masks are held
   plan-among : takes store (needs set g) ≡ true → isPlan set g words store ≡ true → allL (among (held store)) (needs set g) ≡ true

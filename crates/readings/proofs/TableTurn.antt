@@ -10,11 +10,11 @@ use lib.ListN.{length, getD, drop}
 use Rattle.rules.specs.Table.{Table, tableOf, refusal, size, step}
 use Rattle.rules.specs.Graph.{orNone}
 use Rattle.rules.specs.Build.{leafOf, edge}
-use Rattle.rules.specs.Read.{Reading, late, onward, walk, startAt, tableWalker, readTable}
-use Rattle.rules.proofs.Shape.{few-leaves, legal-leaf, legal-step, legal-start, size-is, exact}
+use Rattle.rules.specs.Read.{Reading, late, onward, walk, tableWalker, readTable}
+use Rattle.rules.proofs.LeafWords.{leaf-back}
+use Rattle.rules.proofs.Shape.{legal-step, legal-start, size-is, exact}
 use Rattle.rules.proofs.Flat.{step-word}
 use Rattle.rules.proofs.Walks.{walk-at, walk-done}
-use Rattle.rules.proofs.Words.{back-none}
 
 edge-none : (u : ℕ) → u ≡ 0 → edge u ≡ none
 edge-none u e = ap edge e
@@ -56,15 +56,9 @@ module _ (w text : List ℕ) (legal : refusal w ≡ 0) (s k l u : ℕ) (r q R : 
   abbrev t : Table
   t = tableOf w
 
-  leaf-small : (s x : ℕ) → leafOf t s ≡ some x → x < 255
-  leaf-small s x e = let a : x < getD w 2 0 = legal-leaf w legal s x e in let b = few-leaves w legal in omega arith
-
-  pub leaf-back : (s l : ℕ) → l ≡ Option·getD (leafOf t s) 255 → orNone 255 l ≡ leafOf t s
-  leaf-back s l e = ap (orNone 255) e ∙ back-none 255 (leafOf t s) (leaf-small s)
-
   enter : tableWalker t .enter s k r ≡ q
   unfolding tableWalker
-  enter = ap (λ (o : Option ℕ). late o k r) (sym (leaf-back s l el)) ∙ sym eq
+  enter = ap (λ (o : Option ℕ). late o k r) (sym (leaf-back w legal s l el)) ∙ sym eq
 
   module _ (b : ℕ) (more : k < length text) (eb : b ≡ getD text k 0) (eu : u ≡ step t s b) where
     next : (o : Option ℕ) → edge u ≡ o → rest t text s k r ≡ onward q (λ x. walk (tableWalker t) x (suc k) q (drop (suc k) text)) o
@@ -91,7 +85,7 @@ module _ (w text : List ℕ) (legal : refusal w ≡ 0) (s k l u : ℕ) (r q R : 
     end-stops z = sym (last none (edge-none u z)) ∙ inv
 
     pub end-goes : (u ≡ 0 → ⊥) → (v : ℕ) → v ≡ Option·getD (leafOf t u) 255 → late (orNone 255 v) (suc k) q ≡ R
-    end-goes n v ev = ap (λ (o : Option ℕ). late o (suc k) q) (leaf-back u v ev) ∙ sym (last (some u) (edge-some u n)) ∙ inv
+    end-goes n v ev = ap (λ (o : Option ℕ). late o (suc k) q) (leaf-back w legal u v ev) ∙ sym (last (some u) (edge-some u n)) ∙ inv
 
 -- ---- a step, by its word
 

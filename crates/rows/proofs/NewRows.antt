@@ -17,7 +17,6 @@ use Rattle.rules.specs.Graph.{stateWords}
 use Rattle.rules.specs.Build.{reached, leafOf, edge, firstState, renamed}
 use Rattle.rules.proofs.Flat.{step-word}
 use Rattle.rules.proofs.Rename.{led}
-use Rattle.rules.proofs.Shape.{legal-leaf}
 use Rattle.legal.specs.Conditions.{states, targetWord, Sized}
 use Rattle.rows.specs.Renumbering.{newTarget, newRow}
 use Rattle.legal.proofs.Counts.{row-width}
@@ -55,14 +54,6 @@ module _ (w : List ℕ) (z : Sized w) (numbers : List ℕ) (s : ℕ) (h : s < st
   pub row-marks : getD (newRow (tableOf w) numbers s) 257 0 ≡ Option·getD (leafOf (tableOf w) s) 255 + 256 * 255
   unfolding newRow
   row-marks = getD-at (map (newTarget numbers) (rowOf (tableOf w) s .steps)) (Option·getD (leafOf (tableOf w) s) 255 + 256 * 255) [] 0 257 front-length
-
--- a leaf is below 255, so that its word leaves the high half alone
-pub leaf-low : (w : List ℕ) → refusal w ≡ 0 → (s : ℕ) → Option·getD (leafOf (tableOf w) s) 255 ≤ 255
-leaf-low w legal s = go (leafOf (tableOf w) s) refl
-  where
-    go : (o : Option ℕ) → leafOf (tableOf w) s ≡ o → Option·getD o 255 ≤ 255
-    go none e = omega arith
-    go (some l) e = let b = legal-leaf w legal s l e in let m = legal-sized w legal .few-leaves in omega arith
 
 -- ---- the words of the renamed state
 

@@ -4,13 +4,17 @@ pub mod Nones
 pub mod Rename
 pub mod Merge
 pub mod Prune
+pub mod Agreed
 pub mod Marks
 pub mod Shape
 pub mod Alike
 pub mod Unpruned
 pub mod Reached
+pub mod FromRoot
 pub mod Fits
 pub mod Words
+pub mod LeafWords
 pub mod Flat
 pub mod Taken
+pub mod Cleanness
 pub mod Promises

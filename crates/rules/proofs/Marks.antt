@@ -5,29 +5,18 @@ use mathlib.Core.List.{List, [], _∷_, _++_, map}
 use mathlib.Core.Option.{Option, none, some}
 use mathlib.Core.Logic.{_⊎_, inl, inr, ⊎-elim}
 use Prim.Native.Nat.{ℕ, zero, suc, _+_, _≤_, _<_}
-use native.Mathlib.Nat.{le-of-suc-le-suc}
 use native.Mathlib.Omega.{arith}
 use lib.ListN.{length, getD, take, drop, length-map, length-append, List·getD-map, List·getD-append}
 use lib.Seq.{getD-take, drop-cons, length-take-le, getD-append-seam}
-use Rattle.lists.specs.Lists.{allL, below, those, eqOption}
+use Rattle.lists.specs.Lists.{below, those, eqOption}
 use Rattle.lists.proofs.Elements.{getD-tab0, length-tab, all-at, map-at, option-sound}
 use Rattle.lists.proofs.Bools.{Is, is, no-is, none-some, lt-or-le, yes-is}
 use Rattle.lists.proofs.Distinct.{those-yes}
 use Rattle.rules.specs.Graph.{State, Graph, blank, stateOf, to, acceptOf, earlyOf, leads}
 use Rattle.rules.specs.Build.{present, children, acceptBy, agreed, withEarly, covered, cleared, withCleared}
+use Rattle.rules.proofs.Agreed.{agreed-at}
 use Rattle.rules.proofs.Views.{edge-leads, edge-within, out-blank}
 use Rattle.rules.proofs.Merge.{rest}
-
--- all have the leaf agreed on
-pub agreed-at : (l : List (Option ℕ)) (x : ℕ) → agreed l ≡ some x → (i : ℕ) → i < length l → getD l i none ≡ some x
-agreed-at [] x e i h = absurd (none-some e)
-agreed-at (o ∷ l) x e i h = go (is (allL (eqOption o) l)) i h
-  where
-    go : Is (allL (eqOption o) l) → (i : ℕ) → i < length (o ∷ l) → getD (o ∷ l) i none ≡ some x
-    go (yes-is q) zero h = rw q at e
-    go (yes-is q) (suc i) h =
-        sym (option-sound .eq o (getD l i none) (all-at (eqOption o) l i none q (le-of-suc-le-suc h))) ∙ (rw q at e)
-    go (no-is q) i h = absurd (none-some (rw q at e))
 
 some-within : (l : List (Option ℕ)) (i x : ℕ) → getD l i none ≡ some x → i < length l
 some-within [] i x e = absurd (none-some e)

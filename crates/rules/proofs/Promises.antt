@@ -7,6 +7,7 @@ use Prim.Native.Nat.{ℕ, zero, suc, _+_, _*_, _<_}
 use native.Mathlib.Omega.{arith}
 use lib.ListN.{length, getD}
 use Rattle.lists.proofs.Distinct.{Apart, apart-differ, apart-nil}
+use Rattle.lists.proofs.Elements.{nil-cons}
 use Rattle.lists.proofs.Numbering.{number-in}
 use Rattle.rules.specs.Table.{Table, tableOf, refusal}
 use Rattle.rules.specs.Graph.{State, Graph, blank, stateOf, to, acceptOf, earlyOf, same, FromRoot, stateWords, stateFrom, graphWords, graphBuffer, graphFrom, graphFits}
@@ -20,9 +21,6 @@ use Rattle.rules.proofs.Unpruned.{reached-start, un-facts}
 use Rattle.rules.proofs.Reached.{kept-reached, un-root, un-root-within}
 use Rattle.rules.proofs.Fits.{Fits, build-fits}
 use Rattle.rules.proofs.Words.{buffer-length, graph-back, state-back, words-taken}
-
-nil-cons : {A : Type 0} {x : A} {l : List A} → _≡_ {A = List A} (x ∷ l) [] → ⊥
-nil-cons e = let z : _≡_ {A = ℕ} 0 1 = cc in omega arith
 
 -- ---- no equal states
 

@@ -43,6 +43,16 @@ none-broken k (true ∷ l) e zero = refl
 none-broken k (true ∷ l) e (suc i) = none-broken (suc k) l e i
 none-broken k (false ∷ l) e i = absurd (omega arith)
 
+-- a refusal is a small number
+pub refusal-small : (w : List ℕ) → refusal w < 9
+unfolding refusal conditions countsFit emptiesFit targetsFit headsFit recordsFit
+refusal-small w = broken-below 1 (conditions w)
+  where
+    broken-below : (k : ℕ) (l : List Bool) → firstBroken k l < suc (k + length l)
+    broken-below k [] = omega arith
+    broken-below k (true ∷ l) = let h = broken-below (suc k) l in omega arith
+    broken-below k (false ∷ l) = omega arith
+
 module _ (w : List ℕ) (legal : refusal w ≡ 0) where
   holds : (i : ℕ) → getD (conditions w) i true ≡ true
   unfolding refusal

@@ -22,7 +22,7 @@ pub back-none : (word : ℕ) (o : Option ℕ) → ((x : ℕ) → o ≡ some x �
 back-none word none f = rw (eq-eqb word word refl)
 back-none word (some x) f = rw (ne-eqb x word (λ e. let h : x < word = f x refl in omega arith))
 
-getD-le : (word : ℕ) (o : Option ℕ) → ((x : ℕ) → o ≡ some x → x < word) → Option·getD o word ≤ word
+pub getD-le : (word : ℕ) (o : Option ℕ) → ((x : ℕ) → o ≡ some x → x < word) → Option·getD o word ≤ word
 getD-le word none f = omega arith
 getD-le word (some x) f = let h : x < word = f x refl in omega arith
 

@@ -7,6 +7,7 @@ use Prim.Native.Nat.{ℕ, _+_, _*_, _-_, _/_, _%_}
 use lib.Dec.{eqb, leb, ltb}
 use lib.ListN.{length, getD, take, drop, replicate}
 use Rattle.lists.specs.Lists.{allL, eqList, eqOption, anyL, pieces}
+use Rattle.lists.specs.Sets.{closure}
 
 pub record State : Type 0 where
   pub steps : List (Option ℕ)  -- 257 targets: of the bytes 0 to 255, and at 256 of the end step; none: no edge
@@ -43,6 +44,10 @@ leads s u = anyL (eqOption (some u)) (s .steps)
 pub data FromRoot (g : Graph) : ℕ → Type 0 where
   at-root : FromRoot g (g .root)
   on-edge : {s u : ℕ} → FromRoot g s → (c : ℕ) → to g s c ≡ some u → FromRoot g u
+
+-- and as a set that computes
+unfoldable pub reachedStates : Graph → List Bool
+reachedStates g = closure (λ k u. leads (stateOf g k) u) (length (g .states)) (eqb (g .root))
 
 -- marks, 256 targets and end target all agree (rule 8)
 unfoldable pub same : State → State → Bool

@@ -2,3 +2,4 @@ pub mod Table
 pub mod Graph
 pub mod Build
 pub mod Read
+pub mod Clean

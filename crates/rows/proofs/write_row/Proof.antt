@@ -11,7 +11,8 @@ use Rattle.words.specs.Places.{graphPlace, rowPlace}
 use Rattle.legal.specs.Conditions.{targetWord, Sized}
 use Rattle.rows.specs.Renumbering.{newTarget, newRow}
 use Rattle.legal.proofs.Legal.{legal-sized, legal-means}
-use Rattle.rows.proofs.NewRows.{row-length, row-target, row-marks, leaf-low}
+use Rattle.rules.proofs.LeafWords.{leaf-low}
+use Rattle.rows.proofs.NewRows.{row-length, row-target, row-marks}
 use Rattle.rows.proofs.write_row.Statement.{statement}
 use Rattle.rows.proofs.write_row.Tie as tie
 

@@ -6,8 +6,7 @@ use Prim.Native.Nat.{ℕ, _+_, _*_, _≤_}
 use native.Mathlib.Omega.{arith}
 use lib.ListN.{length, getD}
 use Rattle.rules.specs.Table.{tableOf, refusal}
-use Rattle.rules.proofs.Shape.{exact, few-states, start-none, start-some}
-use Rattle.readings.proofs.Answering.{refusal-small}
+use Rattle.rules.proofs.Shape.{exact, few-states, refusal-small, start-none, start-some}
 use Rattle.graph.proofs.Building.{build-none, build-empty, build-states, new-refused, new-short, new-built}
 use borrow.Author.Needs.{needs}
 use Rattle.graph.proofs.new.new.Statement.{statement}

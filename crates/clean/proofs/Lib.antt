@@ -1,0 +1,4 @@
+pub mod Ties
+pub mod Lowest
+pub mod Rows
+pub mod Breaches

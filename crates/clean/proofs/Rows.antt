@@ -1,0 +1,111 @@
+-- The rules on the words of a legal table: state 0 is dead just if its 258 words are 0 (rule 2); the leaf of all that a state's bytes lead to, from the
+-- leaf of each (rule 3). Assumes nothing.
+use mathlib.Core.Path.{_≡_, refl, sym, ap, _∙_}
+use mathlib.Core.Bool.{true, false, not, _&&_}
+use mathlib.Core.List.{List}
+use mathlib.Core.Option.{Option, none}
+use mathlib.Core.Logic.{⊎-elim}
+use Prim.Native.Nat.{ℕ, _<_}
+use native.Mathlib.Nat.{le-of-suc-le-suc, eq-or-lt-of-le}
+use native.Mathlib.Omega.{arith}
+use borrow.Author.Tests.{eqb-true, eq-eqb, ne-eqb}
+use lib.Dec.{eqb}
+use lib.ListN.{length, getD}
+use Rattle.lists.proofs.Bools.{Is, is, yes-is, no-is, and-both, and-intro, and-right-false}
+use Rattle.lists.proofs.Elements.{all-at, all-intro}
+use Rattle.lists.proofs.Judged.{Judged}
+use Rattle.rules.specs.Table.{Table, tableOf, refusal, size, rowOf, step}
+use Rattle.rules.specs.Graph.{orNone}
+use Rattle.rules.specs.Build.{chain, leafOf, present}
+use Rattle.rules.specs.Clean.{zeroDead, bytesLeaf, endless}
+use Rattle.rules.proofs.Agreed.{agreed-all, agreed-none}
+use Rattle.rules.proofs.Cleanness.{byteLeaves, byte-leaves, byte-leaf}
+use Rattle.rules.proofs.Flat.{step-word, head-word}
+use Rattle.rules.proofs.Nones.{or-none, or-same}
+use Rattle.rules.proofs.Shape.{legal-shaped, legal-width, size-is}
+use Rattle.words.specs.Places.{rowPlace}
+use Rattle.legal.proofs.Legal.{legal-means}
+use Rattle.clean.specs.Held.{LeavesOf}
+use Rattle.clean.proofs.Ties.{chain-none, chain-head}
+
+module _ (w : List ℕ) (legal : refusal w ≡ 0) where
+  abbrev t : Table
+  t = tableOf w
+
+  -- ---- rule 2
+
+  row-zero : length (rowOf (tableOf w) 0 .steps) ≡ 257
+  row-zero = let z = legal-means w legal .sized in legal-width w legal 0 (rw (size-is w legal) (omega arith))
+
+  zero-shown : ((c : ℕ) → c < 258 → getD w (rowPlace (getD w 2 0) 0 c) 0 ≡ 0) → zeroDead t ≡ true
+  unfolding zeroDead step
+  zero-shown f =
+      let z = legal-means w legal .sized in
+      let n = row-zero in
+      let e : rowOf t 0 .head ≡ 0 = head-word w 0 (omega arith) ∙ f 257 (omega arith) in
+      and-intro (eqb (length (chain t 0)) 0) _ (ap (λ (l : List ℕ). eqb (length l) 0) (chain-none t 0 e))
+      (all-intro (eqb 0) (rowOf t 0 .steps) 0 (λ c h. eq-eqb 0 _ (sym (step-word w 0 c (omega arith) (omega arith) ∙ f c (omega arith)))))
+
+  zero-means : zeroDead t ≡ true → (c : ℕ) → c < 258 → getD w (rowPlace (getD w 2 0) 0 c) 0 ≡ 0
+  unfolding zeroDead step
+  zero-means e c h =
+      let z = legal-means w legal .sized in
+      let n = row-zero in
+      let (chained, steps) = and-both (eqb (length (chain t 0)) 0) _ e in
+      ⊎-elim
+      (λ q. ap (λ (x : ℕ). getD w (rowPlace (getD w 2 0) 0 x) 0) q
+      ∙ sym (head-word w 0 (omega arith)) ∙ chain-head t 0 (eqb-true (length (chain t 0)) 0 chained))
+      (λ b. sym (step-word w 0 c (omega arith) b) ∙ sym (eqb-true 0 _ (all-at (eqb 0) (rowOf t 0 .steps) c 0 steps (omega arith))))
+      (eq-or-lt-of-le (le-of-suc-le-suc h))
+
+  pub zero-judged : Judged (zeroDead t) 258 (λ c. getD w (rowPlace (getD w 2 0) 0 c) 0 ≡ 0)
+  zero-judged = record { all = zero-shown; each = zero-means }
+
+  -- ---- rule 3
+
+  module _ (leaf : List ℕ) (held : LeavesOf w leaf) (s : ℕ) (h : s < getD w 0 0) where
+    -- the leaf, 255 for none, of the state that byte b leads to
+    abbrev pub leafBy : ℕ → ℕ
+    leafBy b = getD leaf (getD w (rowPlace (getD w 2 0) s b) 0) 0
+
+    pub by-low : (b : ℕ) → b < 256 → getD w (rowPlace (getD w 2 0) s b) 0 < getD w 0 0
+    by-low b k = legal-means w legal .targets s b h (omega arith)
+
+    inside : s < size t
+    inside = rw (size-is w legal) h
+
+    by-leaf : (b : ℕ) → b < 256 → orNone 255 (leafBy b) ≡ getD (byteLeaves t (legal-shaped w legal) s inside) b none
+    by-leaf b k =
+        held _ (by-low b k) ∙ ap (leafOf t) (sym (step-word w s b h (omega arith))) ∙ sym (byte-leaf t (legal-shaped w legal) s inside b k)
+
+    pub bytes-same : ((b : ℕ) → b < 256 → leafBy b ≡ leafBy 0) → orNone 255 (leafBy 0) ≡ bytesLeaf t s
+    unfolding bytesLeaf
+    bytes-same f =
+        let n = byte-leaves t (legal-shaped w legal) s inside in
+        sym (agreed-all (byteLeaves t (legal-shaped w legal) s inside) (orNone 255 (leafBy 0)) (omega arith)
+        (λ b k. let k′ : b < 256 = omega arith in sym (by-leaf b k′) ∙ ap (orNone 255) (f b k′)))
+
+    pub bytes-differ : (b : ℕ) → b < 256 → (leafBy b ≡ leafBy 0 → ⊥) → orNone 255 255 ≡ bytesLeaf t s
+    unfolding bytesLeaf
+    bytes-differ b k d =
+        let n = byte-leaves t (legal-shaped w legal) s inside in
+        or-none 255 255 refl
+        ∙ sym (agreed-none (byteLeaves t (legal-shaped w legal) s inside) b (omega arith)
+        (λ q. d (or-same 255 (leafBy b) (leafBy 0) (by-leaf b k ∙ q ∙ sym (by-leaf 0 (omega arith))))))
+
+  -- by the end step's word, and the leaf of all that the bytes lead to
+  module _ (s : ℕ) (h : s < getD w 0 0) where
+    end-word : step t s 256 ≡ getD w (rowPlace (getD w 2 0) s 256) 0
+    end-word = step-word w s 256 h (omega arith)
+
+    pub endless-not : (getD w (rowPlace (getD w 2 0) s 256) 0 ≡ 0 → ⊥) → endless t s ≡ false
+    unfolding endless
+    endless-not n = and-right-false (present (bytesLeaf t s)) _ (ne-eqb (step t s 256) 0 (λ e. n (sym end-word ∙ e)))
+
+    pub endless-leaf : getD w (rowPlace (getD w 2 0) s 256) 0 ≡ 0 → (r : ℕ) → orNone 255 r ≡ bytesLeaf t s → not (eqb r 255) ≡ endless t s
+    unfolding endless
+    endless-leaf z r at = go (is (eqb r 255)) ∙ ap (λ (o : Option ℕ). present o && eqb (step t s 256) 0) at
+      where
+        go : Is (eqb r 255) → not (eqb r 255) ≡ (present (orNone 255 r) && eqb (step t s 256) 0)
+        go (yes-is q) = rw q
+        go (no-is q) = rw q (sym (eq-eqb (step t s 256) 0 (end-word ∙ z)))

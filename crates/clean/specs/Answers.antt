@@ -1,0 +1,25 @@
+-- What the call `clean` answers, by the definitions of `rules`. Definitions only.
+use mathlib.Core.Bool.{true, false}
+use mathlib.Core.List.{List, [], _∷_}
+use mathlib.Core.Option.{Option, none, some}
+use Prim.Native.Nat.{ℕ}
+use lib.Dec.{eqb}
+use Rattle.lists.specs.Told.{Told, telling, refusing}
+use Rattle.rules.specs.Table.{tableOf, refusal}
+use Rattle.rules.specs.Clean.{Breach, breach}
+use Rattle.clean.specs.declared.Verdict.{Verdict}
+use Rattle.clean.specs.declared.Verdict.the-variants.{Clean, Breaks, Refused}
+
+abbrev pub verdict : Option Breach → Verdict
+verdict none = Clean
+verdict (some b) = Breaks (b .rule) (b .state)
+
+-- 1 to 7, or the verdict
+unfoldable pub cleanOf : List ℕ → Verdict
+cleanOf table = elim (eqb (refusal table) 0) [ true ↦ verdict (breach (tableOf table)) | false ↦ Refused (refusal table) ]
+
+-- in document 01's numbers: the rule that is broken, 0 if none is, and the state where, 65,535 if it belongs to none
+abbrev pub cleanTold : Verdict → Told
+cleanTold Clean = telling (0 ∷ 0 ∷ [])
+cleanTold (Breaks rule state) = telling (rule ∷ state ∷ [])
+cleanTold (Refused n) = refusing n 2

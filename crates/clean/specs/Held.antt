@@ -1,0 +1,20 @@
+-- What the parts of the call hold. Definitions only.
+use mathlib.Core.Path.{_≡_}
+use mathlib.Core.Bool.{Bool}
+use mathlib.Core.List.{List}
+use mathlib.Core.Option.{Option}
+use Prim.Native.Nat.{ℕ, _<_}
+use lib.ListN.{getD}
+use Rattle.lists.specs.Lists.{below, those, select}
+use Rattle.rules.specs.Table.{tableOf}
+use Rattle.rules.specs.Graph.{orNone}
+use Rattle.rules.specs.Build.{leafOf}
+use Rattle.rules.specs.Clean.{first}
+
+-- each state's leaf, 255 for none
+abbrev pub LeavesOf : List ℕ → List ℕ → Type 0
+LeavesOf w leaves = (s : ℕ) → s < getD w 0 0 → orNone 255 (getD leaves s 0) ≡ leafOf (tableOf w) s
+
+-- the lowest of the table's states that is in a set and passes a test
+abbrev pub lowest : List ℕ → List Bool → (ℕ → Bool) → Option ℕ
+lowest w set p = first (those p (select set (below (getD w 0 0))))

@@ -1,0 +1,180 @@
+// Whether a table is clean (document 01, "Clean means"), and which rule it breaks first, at which state. What the call answers is defined in
+// specs/Answers.antt, over rules/specs/Clean.antt. Each state's leaf is worked out once, so that the time is in proportion to the table's words and
+// to its states' chains.
+ghost use mathlib.Core.Path.{_≡_};
+ghost use mathlib.Core.List.{[]};
+ghost use mathlib.Core.Option.{some};
+ghost use Prim.Native.Nat.{_<_};
+ghost use lib.ListN.{getD};
+ghost use Rattle.rules.specs.Table.{tableOf, refusal};
+ghost use Rattle.rules.specs.Graph.{orNone};
+ghost use Rattle.rules.specs.Build.{emptyLeaves};
+ghost use Rattle.rules.specs.Clean.{breach, tied, zeroDead, bytesLeaf, endless};
+ghost use Rattle.clean.specs.Answers.{verdict, cleanOf};
+ghost use Rattle.clean.specs.Held.{LeavesOf, lowest};
+use words::table::leaves;
+use words::table::row_word;
+use words::table::start;
+use words::table::states;
+
+// Clean; or the rule, 1 to 3, that the table breaks first, and the lowest state where, 65,535 if the breach belongs to no state; or 1 to 7.
+pub enum Verdict {
+    Clean,
+    Breaks(u16, u16),
+    Refused(u8),
+}
+
+// Each state's leaf; 255 if it has none.
+fn leaves_of(table: &[u16]) -> [u8; 1024]
+    requires { ⌜ refusal (now table) ≡ 0 ⌝ }
+    ensures { λ r. ⌜ LeavesOf (now (table .entry)) r ⌝ }
+{
+    let n = states(table);
+    let mut out = [255u8; 1024];
+    let mut s: usize = 0;
+    while s < n {
+        out[s] = leaves::leaf_of(table, s) as u8;
+        s += 1;
+    }
+    out
+}
+
+// Whether several leaves share the highest priority in state s's chain: it is not empty, and the state has no leaf.
+fn tied(table: &[u16], leaf: &[u8; 1024], s: usize) -> bool
+    requires { ⌜ refusal (now table) ≡ 0 ⌝ }
+    requires { ⌜ LeavesOf (now table) (now leaf) ⌝ }
+    requires { ⌜ s < getD (now table) 0 0 ⌝ }
+    ensures { λ r. ⌜ r ≡ tied (tableOf (now (table .entry))) s ⌝ }
+{
+    if leaf[s] != 255 {
+        return false;
+    }
+    leaves::head(table, s) != 0
+}
+
+// The lowest state of a set that is tied; 65,535 if none is.
+fn lowest_tied(table: &[u16], leaf: &[u8; 1024], set: &[bool; 1024]) -> u16
+    requires { ⌜ refusal (now table) ≡ 0 ⌝ }
+    requires { ⌜ LeavesOf (now table) (now leaf) ⌝ }
+    ensures { λ r. ⌜ orNone 65535 r ≡ lowest (now (table .entry)) (now (set .entry)) (tied (tableOf (now (table .entry)))) ⌝ }
+{
+    let mut found: u16 = 65535;
+    let mut s = states(table);
+    while 0 < s {
+        s -= 1;
+        if set[s] {
+            if tied(table, leaf, s) {
+                found = s as u16;
+            }
+        }
+    }
+    found
+}
+
+// Whether state 0 has an empty chain and all its steps lead to 0.
+fn zero_dead(table: &[u16]) -> bool
+    requires { ⌜ refusal (now table) ≡ 0 ⌝ }
+    ensures { λ r. ⌜ r ≡ zeroDead (tableOf (now (table .entry))) ⌝ }
+{
+    let m = leaves(table);
+    let mut c: usize = 0;
+    while c < 258 {
+        if row_word(table, m, 0, c) != 0 {
+            return false;
+        }
+        c += 1;
+    }
+    true
+}
+
+// The leaf of all states that the bytes lead to from state s; 255 if one has none or two differ.
+fn bytes_leaf(table: &[u16], leaf: &[u8; 1024], s: usize) -> u8
+    requires { ⌜ refusal (now table) ≡ 0 ⌝ }
+    requires { ⌜ LeavesOf (now table) (now leaf) ⌝ }
+    requires { ⌜ s < getD (now table) 0 0 ⌝ }
+    ensures { λ r. ⌜ orNone 255 r ≡ bytesLeaf (tableOf (now (table .entry))) s ⌝ }
+{
+    let m = leaves(table);
+    let first = leaf[row_word(table, m, s, 0)];
+    let mut b: usize = 1;
+    while b < 256 {
+        if leaf[row_word(table, m, s, b)] != first {
+            return 255;
+        }
+        b += 1;
+    }
+    first
+}
+
+// Whether the bytes of state s all lead to one leaf, and no end step to a state other than 0.
+fn endless(table: &[u16], leaf: &[u8; 1024], s: usize) -> bool
+    requires { ⌜ refusal (now table) ≡ 0 ⌝ }
+    requires { ⌜ LeavesOf (now table) (now leaf) ⌝ }
+    requires { ⌜ s < getD (now table) 0 0 ⌝ }
+    ensures { λ r. ⌜ r ≡ endless (tableOf (now (table .entry))) s ⌝ }
+{
+    if row_word(table, leaves(table), s, 256) != 0 {
+        return false;
+    }
+    bytes_leaf(table, leaf, s) != 255
+}
+
+// The lowest state of a set that is endless; 65,535 if none is.
+fn lowest_endless(table: &[u16], leaf: &[u8; 1024], set: &[bool; 1024]) -> u16
+    requires { ⌜ refusal (now table) ≡ 0 ⌝ }
+    requires { ⌜ LeavesOf (now table) (now leaf) ⌝ }
+    ensures { λ r. ⌜ orNone 65535 r ≡ lowest (now (table .entry)) (now (set .entry)) (endless (tableOf (now (table .entry)))) ⌝ }
+{
+    let mut found: u16 = 65535;
+    let mut s = states(table);
+    while 0 < s {
+        s -= 1;
+        if set[s] {
+            if endless(table, leaf, s) {
+                found = s as u16;
+            }
+        }
+    }
+    found
+}
+
+// The verdict on a table with a start, no leaf of which can match empty text.
+fn judged(table: &[u16], start: usize) -> Verdict
+    requires { ⌜ refusal (now table) ≡ 0 ⌝ }
+    requires { ⌜ tableOf (now table) .start ≡ some start ⌝ }
+    requires { ⌜ emptyLeaves (tableOf (now table)) ≡ [] ⌝ }
+    ensures { λ r. ⌜ r ≡ verdict (breach (tableOf (now (table .entry)))) ⌝ }
+{
+    let set = reach::reached(table, start);
+    let leaf = leaves_of(table);
+    let tie = lowest_tied(table, &leaf, &set);
+    if tie != 65535 {
+        return Verdict::Breaks(1, tie);
+    }
+    if !zero_dead(table) {
+        return Verdict::Breaks(2, 0);
+    }
+    let end = lowest_endless(table, &leaf, &set);
+    if end != 65535 {
+        return Verdict::Breaks(3, end);
+    }
+    Verdict::Clean
+}
+
+// Whether a table is clean, or the first rule that it breaks and where; or 1 to 7.
+pub fn clean(table: &[u16]) -> Verdict
+    ensures { λ r. ⌜ r ≡ cleanOf (now (table .entry)) ⌝ }
+{
+    let refusal = legal::check(table);
+    if refusal != 0 {
+        return Verdict::Refused(refusal as u8);
+    }
+    let s = start(table);
+    if s == 65535 {
+        return Verdict::Breaks(1, 65535);
+    }
+    if legal::count_empty(table) != 0 {
+        return Verdict::Breaks(1, 65535);
+    }
+    judged(table, s)
+}
