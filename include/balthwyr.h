@@ -71,6 +71,18 @@ uint8_t balthwyr_read_graph(const uint16_t *graph, size_t graph_len, const uint8
 uint8_t balthwyr_read_table(const uint16_t *table, size_t table_len, const uint8_t *text, size_t text_len, size_t *found,
                             size_t *leaf, size_t *end);
 
+/* ---- Clean
+ *
+ * Of a clean table, the readings by the table, by its graph and by its plans are alike. The rules: 1, the build has no error; 2, state 0 has an
+ * empty chain and all its steps lead to 0; 3, a reached state whose 256 byte steps all lead to states of one same leaf has an end step to a state
+ * other than 0. */
+
+#define BALTHWYR_NO_STATE 65535
+
+/* Whether a table is clean: *rule is the first rule that it breaks, 0 if none, and *state the lowest state where, or BALTHWYR_NO_STATE for an
+ * error of the build that belongs to no state. Refusals: 1 to 7. */
+uint8_t balthwyr_clean(const uint16_t *table, size_t table_len, size_t *rule, size_t *state);
+
 /* ---- Scan
  *
  * A scan is a number that the caller holds: the offset that it is reading at, 0 at first, or BALTHWYR_ENDED once it has answered that it has

@@ -10,7 +10,7 @@ OUT=target/oracle
 CC=(cc -std=c11 -O2 -Wall -Wextra -Werror -Iinclude)
 rt staticlib capi >/dev/null
 oracle/build.sh
-"${CC[@]}" -o $OUT/port oracle/port/{port,builds,readings,clean,classes,plans,lent,lines}.c target/staticlib/libcapi.a
+"${CC[@]}" -o $OUT/port oracle/port/{port,builds,readings,classes,plans,lent,lines}.c target/staticlib/libcapi.a
 "${CC[@]}" -o $OUT/build examples/build.c target/staticlib/libcapi.a
 for name in builds display readings classes priorities plans; do
     oracle/compare.py $name "$SEED" "$COUNT" $OUT/port

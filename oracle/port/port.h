@@ -24,7 +24,4 @@ struct built build_words(const uint16_t *table, size_t length, size_t graph_buff
 /* Prints the text of graph words, or its refusal. */
 void print_text(const uint16_t *graph, size_t length);
 
-/* Document 01, "Clean", of a legal table whose build has so many errors. */
-int is_clean(const uint16_t *table, size_t errors);
-
 #endif

@@ -78,6 +78,17 @@ static void print_scan(const uint16_t *graph, size_t length, size_t offset) {
     check_list(graph, length, offset, pieces, count, count + 1);
 }
 
+/* Whether the library finds a table clean, and what it must say of a build with errors and of one without. */
+static int is_clean(const uint16_t *table, size_t length, const struct built *b) {
+    size_t rule = UNWRITTEN, state = UNWRITTEN;
+    check(balthwyr_clean(table, length, &rule, &state) == b->refusal, "build and verdict refuse a table differently");
+    check((rule == 1) == (b->refusal == 0 && b->count != 0), "rule 1 is not that the build has no error");
+    check(rule <= 3 && (rule != 0 || state == 0) && (rule != 2 || state == 0), "a verdict has another rule or state");
+    int tie = rule == 1 && b->errors[0] == BALTHWYR_DISAMBIGUATION;
+    check(rule == 0 || (rule == 1 && !tie ? state == BALTHWYR_NO_STATE : state < table[0]), "a rule is broken at a state that the table lacks");
+    return rule == 0;
+}
+
 void answer_table_reading(char **fields, size_t count) {
     static uint16_t table[MOST];
     check(count == 2, "not two fields");
@@ -88,11 +99,11 @@ void answer_table_reading(char **fields, size_t count) {
     size_t most = length > 0 && table[0] <= 1024 ? table[0] : 1024;
     struct built b = build_words(table, length, 2 + 258 * most, 257 * most + 765);
     check(b.refusal == by_table.refusal, "build and reading refuse a table differently");
+    int clean = is_clean(table, length, &b);
     if (b.refusal != 0) {
         printf("table refused-%u", b.refusal);
         return;
     }
-    int clean = is_clean(table, b.count);
     struct reading by_graph = read_by(balthwyr_read_graph, b.graph, 2 + 258 * b.states);
     int alike = by_table.found == by_graph.found && by_table.leaf == by_graph.leaf && by_table.end == by_graph.end;
     check(!clean || alike, "a clean table and its graph read differently");

@@ -14,3 +14,4 @@ pub mod priorities;
 pub mod read;
 pub mod scan;
 pub mod text;
+pub mod verdict;

@@ -1,5 +1,6 @@
-// The build of a table: its words against the stored graph words.
+// The build of a table: its words against the stored graph words; and whether the table is clean.
 ghost use Prim.Native.Nat.{_<_};
+use clean::Verdict;
 use graph::new::Answer;
 use graph::new::Counts;
 
@@ -93,4 +94,14 @@ pub(crate) fn alike(
         list,
         at,
     )
+}
+
+// Whether `clean` says of a table what the list says of it: clean by 1, else 0.
+pub(crate) fn verdict_alike(table: &[u16], clean: usize) -> bool {
+    let verdict = clean::clean(table);
+    match verdict {
+        Verdict::Clean => clean == 1,
+        Verdict::Breaks(_, _) => clean == 0,
+        Verdict::Refused(_) => false,
+    }
 }

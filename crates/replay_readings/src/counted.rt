@@ -2,10 +2,12 @@
 use vectors::tally::Case;
 use vectors::tally::Tally;
 
-// Where the list is read on; the tables or graphs so far; and of their texts the readings, those of clean tables, the scans and the lists.
+// Where the list is read on; the tables or graphs so far; the tables by whether they are clean; and of the texts the readings, those of clean tables,
+// the scans and the lists.
 pub(crate) struct Counted {
     pub at: usize,
     pub cases: Tally,
+    pub verdicts: Tally,
     pub readings: Tally,
     pub clean: Tally,
     pub scans: Tally,
@@ -29,6 +31,7 @@ pub(crate) fn begun(at: usize) -> Counted {
     Counted {
         at: at,
         cases: none,
+        verdicts: none,
         readings: none,
         clean: none,
         scans: none,
@@ -46,6 +49,13 @@ pub(crate) fn case_noted(c: Counted, at: usize, same: bool) -> Counted {
     let mut d = c;
     d.at = at;
     d.cases = more(c.cases, at, same);
+    d
+}
+
+// One verdict more on a table.
+pub(crate) fn verdict_noted(c: Counted, same: bool) -> Counted {
+    let mut d = c;
+    d.verdicts = more(c.verdicts, c.at, same);
     d
 }
 

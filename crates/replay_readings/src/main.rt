@@ -1,5 +1,6 @@
-// Replays the stored readings and scans (docs/ORACLE.md, "readings.bin"): every table is built, every text is read by the table and by the graph,
-// scanned piece by piece, and listed into buffers; then the same of graphs that no table gives. Every value is compared with the stored one.
+// Replays the stored readings and scans (docs/ORACLE.md, "readings.bin"): every table is built, and judged clean or not; every text is read by the
+// table and by the graph, scanned piece by piece, and listed into buffers; then the same of graphs that no table gives. Every value is compared with
+// the stored one.
 mod build;
 mod counted;
 mod entries;
@@ -48,6 +49,7 @@ fn replay(
 // Prints the lines of the tables and their texts, and answers the place after them.
 fn tell_tables(tables: Counted) -> usize {
     vectors::tally::tell(b"tables", tables.cases);
+    vectors::tally::tell(b"tables clean or not", tables.verdicts);
     vectors::tally::tell(b"table readings", tables.readings);
     vectors::tally::tell(b"readings of clean tables", tables.clean);
     vectors::tally::tell(b"table scans", tables.scans);

@@ -1,4 +1,4 @@
-// Tables: the build, and each text, read by the table and by the graph, scanned and listed.
+// Tables: the build, whether they are clean, and each text, read by the table and by the graph, scanned and listed.
 use crate::counted::Counted;
 use crate::counted::Seen;
 
@@ -86,7 +86,8 @@ fn by_words(
         list,
         graph,
     );
-    let c = crate::counted::case_noted(before, vectors::after(list, said, 1), same);
+    let noted = crate::counted::case_noted(before, vectors::after(list, said, 1), same);
+    let c = crate::counted::verdict_noted(noted, crate::build::verdict_alike(table, clean));
     let whole = crate::texts::front(built, size);
     all_texts(list, c, table, stored, whole, clean == 1, out)
 }
