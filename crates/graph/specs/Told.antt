@@ -22,6 +22,6 @@ newRefusal table graph errors =
 unfoldable pub imageRefusal : List ℕ → List ℕ → List ℕ → ℕ
 imageRefusal image graph errors = lowest (on (eqb (length image % 2) 1 || ltb 65536 (length image)) 13 ∷ newRefusal (wordsOf image) graph errors ∷ [])
 
--- the numbers of states, the root, the numbers of errors and of error words
+-- the number of states, the root, the number of errors, the number of error words
 abbrev pub buildValues : Built → List ℕ
 buildValues b = length (b .graph .states) ∷ b .graph .root ∷ length (b .errors) ∷ length (conflicts b) ∷ []
