@@ -7,18 +7,32 @@ mod image;
 
 use vectors::tally::Tally;
 
-// All of a list, by what the calls are said to answer. There is room for any legal table, for a table of one state more, for the graph of 1,024
-// states, and for the image with a byte more.
+// Room for any legal table, and for one of a state more.
+fn table_room() -> [u16; 273664] {
+    [0; 273664]
+}
+
+// Room for the graph of 1,024 states.
+fn graph_room() -> [u16; 264448] {
+    [0; 264448]
+}
+
+// Room for the image of a table, with a byte more.
+fn image_room() -> [u8; 547329] {
+    [0; 547329]
+}
+
 fn main() {
-    let mut space = [0u8; 262144];
+    let mut space = vectors::space();
     let n = io::read_full(0, &mut space);
-    let mut table = [0u16; 273664];
-    let mut graph = [0u16; 264448];
+    let mut table = table_room();
+    let mut graph = graph_room();
     let mut errors = [0u16; 1024];
-    let mut image = [0u8; 547329];
-    replay_words(&space[..n], &mut table, &mut graph, &mut errors);
-    replay_images(&space[..n], &mut table, &mut graph, &mut errors, &mut image);
-    replay_thirteen(&space[..n], &mut table, &mut graph, &mut errors, &mut image);
+    let mut image = image_room();
+    let list = &space[..n];
+    replay_words(list, &mut table, &mut graph, &mut errors);
+    replay_images(list, &mut table, &mut graph, &mut errors, &mut image);
+    replay_thirteen(list, &mut table, &mut graph, &mut errors, &mut image);
 }
 
 // Prints the line of the calls of one kind.
