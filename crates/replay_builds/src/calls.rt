@@ -1,8 +1,16 @@
 // The two calls, on every case of one kind.
 ghost use Prim.Native.Nat.{_<_};
 use crate::cases::Stored;
+use graph::new::Answer;
 use vectors::tally::Case;
 use vectors::tally::Tally;
+
+// A call on a case: whether it is the one on the image, by what it is said to be refused, 0 for none, and what the buffers are filled with before it.
+struct Call {
+    pub from_image: bool,
+    pub refusal: usize,
+    pub fill: u16,
+}
 
 // What the buffers of case i are filled with: an odd number for the call on words, and the even one after it, never 0, for the call on the image.
 fn pattern(i: usize, more: usize) -> u16
@@ -11,82 +19,112 @@ fn pattern(i: usize, more: usize) -> u16
     (1 + more + 2 * (20011 * (i % 32767) % 32767)) as u16
 }
 
-// ---- the calls, on buffers of the lengths that the case says
-
-fn words_alike(
-    table: &[u16],
-    graph: &mut [u16],
-    errors: &mut [u16],
-    fill: u16,
-    list: &[u8],
-    case: Stored,
-) -> bool {
-    let g = graph.len();
-    let e = errors.len();
-    vectors::parts::fill(graph, 0, g, fill);
-    vectors::parts::fill(errors, 0, e, fill);
-    let answer = graph::new::new(table, graph, errors);
-    let refusal = case.by_words;
-    crate::compare::alike(answer, table, graph, errors, fill, list, case, refusal)
+// The call on case i.
+fn call_on(case: Stored, from_image: bool, i: usize) -> Call {
+    if from_image {
+        Call {
+            from_image: true,
+            refusal: case.by_image,
+            fill: pattern(i, 1),
+        }
+    } else {
+        Call {
+            from_image: false,
+            refusal: case.by_words,
+            fill: pattern(i, 0),
+        }
+    }
 }
 
-fn image_alike(
+// ---- a call, on buffers of the lengths that the case says
+
+fn fill(graph: &mut [u16], errors: &mut [u16], value: u16) {
+    let g = graph.len();
+    let e = errors.len();
+    vectors::parts::fill(graph, 0, g, value);
+    vectors::parts::fill(errors, 0, e, value);
+}
+
+fn answer(
+    from_image: bool,
+    table: &[u16],
     image: &[u8],
-    table: &[u16],
     graph: &mut [u16],
     errors: &mut [u16],
-    fill: u16,
-    list: &[u8],
-    case: Stored,
-) -> bool {
-    let g = graph.len();
-    let e = errors.len();
-    vectors::parts::fill(graph, 0, g, fill);
-    vectors::parts::fill(errors, 0, e, fill);
-    let answer = graph::image::from_image(image, graph, errors);
-    let refusal = case.by_image;
-    crate::compare::alike(answer, table, graph, errors, fill, list, case, refusal)
+) -> Answer {
+    if from_image {
+        graph::image::from_image(image, graph, errors)
+    } else {
+        graph::new::new(table, graph, errors)
+    }
 }
 
-// ---- a case: its table unpacked, and the buffers cut to their lengths; a case that has no room differs
-
-fn on_words(
-    list: &[u8],
-    case: Stored,
-    fill: u16,
-    table: &mut [u16],
+fn call_alike(
+    call: Call,
+    table: &[u16],
+    image: &[u8],
     graph: &mut [u16],
     errors: &mut [u16],
+    list: &[u8],
+    case: Stored,
 ) -> bool {
-    let n = vectors::runs::count(list, case.table);
+    fill(graph, errors, call.fill);
+    let a = answer(call.from_image, table, image, graph, errors);
+    crate::compare::alike(a, table, graph, errors, call.fill, list, case, call.refusal)
+}
+
+// ---- a case: its table unpacked, its image packed, and the buffers cut to their lengths; a case that has no room differs
+
+fn on_buffers(
+    call: Call,
+    table: &[u16],
+    image: &[u8],
+    graph: &mut [u16],
+    errors: &mut [u16],
+    list: &[u8],
+    case: Stored,
+) -> bool {
     let g = case.graph;
     let e = case.errors;
-    if !vectors::runs::unpack(list, case.table, table) {
-        return false;
-    }
-    if table.len() < n {
-        return false;
-    }
     if graph.len() < g {
         return false;
     }
     if errors.len() < e {
         return false;
     }
-    words_alike(
-        &table[0..n],
+    call_alike(
+        call,
+        table,
+        image,
         &mut graph[0..g],
         &mut errors[0..e],
-        fill,
         list,
         case,
     )
 }
 
-fn on_image(
+// The image takes `size` bytes.
+fn on_table(
+    call: Call,
+    table: &[u16],
+    image: &mut [u8],
+    size: usize,
+    graph: &mut [u16],
+    errors: &mut [u16],
     list: &[u8],
     case: Stored,
-    fill: u16,
+) -> bool {
+    if image.len() < size {
+        return false;
+    }
+    crate::image::pack(table, case.byte, image);
+    on_buffers(call, table, &image[0..size], graph, errors, list, case)
+}
+
+fn on_case(
+    call: Call,
+    list: &[u8],
+    case: Stored,
     table: &mut [u16],
     graph: &mut [u16],
     errors: &mut [u16],
@@ -95,34 +133,14 @@ fn on_image(
     requires { ⌜ case .odd < 256 ⌝ }
 {
     let n = vectors::runs::count(list, case.table);
-    let size = 2 * n + case.odd;
-    let g = case.graph;
-    let e = case.errors;
     if !vectors::runs::unpack(list, case.table, table) {
         return false;
     }
     if table.len() < n {
         return false;
     }
-    if graph.len() < g {
-        return false;
-    }
-    if errors.len() < e {
-        return false;
-    }
-    if image.len() < size {
-        return false;
-    }
-    crate::image::pack(&table[0..n], case.byte, image);
-    image_alike(
-        &image[0..size],
-        &table[0..n],
-        &mut graph[0..g],
-        &mut errors[0..e],
-        fill,
-        list,
-        case,
-    )
+    let size = 2 * n + case.odd;
+    on_table(call, &table[0..n], image, size, graph, errors, list, case)
 }
 
 // ---- the cases of one kind
@@ -137,35 +155,12 @@ fn skipped(t: Tally, at: usize) -> Tally {
     }
 }
 
-// The case where a tally stands: the call on words, if it is said to be refused by `kind`, 0 for none.
-fn word_turn(
+// The case where a tally stands, with number i: the call, if it is said to be refused by `kind`, 0 for none.
+fn turn(
     t: Tally,
     i: usize,
     list: &[u8],
-    kind: usize,
-    table: &mut [u16],
-    graph: &mut [u16],
-    errors: &mut [u16],
-) -> Tally {
-    let case = crate::cases::read(list, t.at);
-    if case.by_words != kind {
-        return skipped(t, case.end);
-    }
-    let same = on_words(list, case, pattern(i, 0), table, graph, errors);
-    vectors::tally::noted(
-        t,
-        Case {
-            at: case.end,
-            same: same,
-        },
-    )
-}
-
-// The same of the call on the image.
-fn image_turn(
-    t: Tally,
-    i: usize,
-    list: &[u8],
+    from_image: bool,
     kind: usize,
     table: &mut [u16],
     graph: &mut [u16],
@@ -173,10 +168,11 @@ fn image_turn(
     image: &mut [u8],
 ) -> Tally {
     let case = crate::cases::read(list, t.at);
-    if case.by_image != kind {
+    let c = call_on(case, from_image, i);
+    if c.refusal != kind {
         return skipped(t, case.end);
     }
-    let same = on_image(list, case, pattern(i, 1), table, graph, errors, image);
+    let same = on_case(c, list, case, table, graph, errors, image);
     vectors::tally::noted(
         t,
         Case {
@@ -186,29 +182,10 @@ fn image_turn(
     )
 }
 
-// The calls on words that are said to be refused by `kind`, 0 for none.
-pub(crate) fn by_words(
+// The calls on words, or on images, that are said to be refused by `kind`, 0 for none.
+pub(crate) fn of_kind(
     list: &[u8],
-    kind: usize,
-    table: &mut [u16],
-    graph: &mut [u16],
-    errors: &mut [u16],
-) -> Tally {
-    let n = vectors::word(list, 0);
-    let mut t = vectors::tally::begun(vectors::after(list, 0, 4));
-    for i in 0..n {
-        let place = t.at;
-        if list.len() < place {
-            return t;
-        }
-        t = word_turn(t, i, list, kind, table, graph, errors);
-    }
-    t
-}
-
-// The calls on images that are.
-pub(crate) fn by_image(
-    list: &[u8],
+    from_image: bool,
     kind: usize,
     table: &mut [u16],
     graph: &mut [u16],
@@ -222,7 +199,7 @@ pub(crate) fn by_image(
         if list.len() < place {
             return t;
         }
-        t = image_turn(t, i, list, kind, table, graph, errors, image);
+        t = turn(t, i, list, from_image, kind, table, graph, errors, image);
     }
     t
 }

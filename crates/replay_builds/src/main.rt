@@ -7,23 +7,41 @@ mod image;
 
 use vectors::tally::Tally;
 
-// All of a list, by what the calls are said to answer. There is room for any legal table, for a table of one state more, for the graph of 1,024
-// states, and for the image with a byte more.
+// Room for any legal table, and for one of a state more.
+fn table_room() -> [u16; 273664] {
+    [0; 273664]
+}
+
+// Room for the graph of 1,024 states.
+fn graph_room() -> [u16; 264448] {
+    [0; 264448]
+}
+
+// Room for the image of a table, with a byte more.
+fn image_room() -> [u8; 547329] {
+    [0; 547329]
+}
+
 fn main() {
-    let mut space = [0u8; 262144];
+    let mut space = vectors::space();
     let n = io::read_full(0, &mut space);
-    let mut table = [0u16; 273664];
-    let mut graph = [0u16; 264448];
+    let mut table = table_room();
+    let mut graph = graph_room();
     let mut errors = [0u16; 1024];
-    let mut image = [0u8; 547329];
-    replay_words(&space[..n], &mut table, &mut graph, &mut errors);
-    replay_images(&space[..n], &mut table, &mut graph, &mut errors, &mut image);
-    replay_thirteen(&space[..n], &mut table, &mut graph, &mut errors, &mut image);
+    let mut image = image_room();
+    let list = &space[..n];
+    replay(list, false, &mut table, &mut graph, &mut errors, &mut image);
+    replay(list, true, &mut table, &mut graph, &mut errors, &mut image);
+    replay_thirteen(list, &mut table, &mut graph, &mut errors, &mut image);
 }
 
 // Prints the line of the calls of one kind.
-fn tell(call: &[u8], kind: usize, t: Tally) {
-    io::write_all(1, call);
+fn tell(from_image: bool, kind: usize, t: Tally) {
+    if from_image {
+        io::write_all(1, b"image");
+    } else {
+        io::write_all(1, b"words");
+    }
     if kind == 0 {
         io::write_all(1, b" built");
     } else {
@@ -33,25 +51,18 @@ fn tell(call: &[u8], kind: usize, t: Tally) {
     vectors::tally::tell(b":", t);
 }
 
-// The calls on words.
-fn replay_words(list: &[u8], table: &mut [u16], graph: &mut [u16], errors: &mut [u16]) {
-    for kind in 0..10 {
-        let t = calls::by_words(list, kind, table, graph, errors);
-        tell(b"words", kind, t);
-    }
-}
-
-// The calls on images, but for 13.
-fn replay_images(
+// The calls on words, or on images, but for 13.
+fn replay(
     list: &[u8],
+    from_image: bool,
     table: &mut [u16],
     graph: &mut [u16],
     errors: &mut [u16],
     image: &mut [u8],
 ) {
     for kind in 0..10 {
-        let t = calls::by_image(list, kind, table, graph, errors, image);
-        tell(b"image", kind, t);
+        let t = calls::of_kind(list, from_image, kind, table, graph, errors, image);
+        tell(from_image, kind, t);
     }
 }
 
@@ -63,7 +74,7 @@ fn replay_thirteen(
     errors: &mut [u16],
     image: &mut [u8],
 ) {
-    let last = calls::by_image(list, 13, table, graph, errors, image);
-    tell(b"image", 13, last);
+    let last = calls::of_kind(list, true, 13, table, graph, errors, image);
+    tell(true, 13, last);
     vectors::tally::tell_end(list, last.at);
 }

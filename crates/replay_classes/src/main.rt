@@ -4,7 +4,7 @@ mod byte_class;
 mod masks;
 
 fn main() {
-    let mut space = [0u8; 262144];
+    let mut space = vectors::space();
     let n = io::read_full(0, &mut space);
     let mut places = [0usize; 4096];
     replay(&space[..n], &mut places);

@@ -4,11 +4,21 @@ mod calls;
 mod found;
 mod texts;
 
+// Room for the words of a graph of 1,024 states and of one more.
+fn word_room() -> [u16; 265216] {
+    [0; 265216]
+}
+
+// Room for a text.
+fn text_room() -> [u8; 65536] {
+    [0; 65536]
+}
+
 fn main() {
-    let mut space = [0u8; 524288];
+    let mut space = vectors::space();
     let n = io::read_full(0, &mut space);
-    let mut words = [0u16; 265216];
-    let mut out = [0u8; 65536];
+    let mut words = word_room();
+    let mut out = text_room();
     replay(&space[..n], &mut words, &mut out);
 }
 

@@ -9,11 +9,16 @@ mod stores;
 
 use crate::counted::Counted;
 
-// There is room for the graph of 1,024 states and of one more, and for its plan. What has no room here differs.
+// Room for the graph of 1,024 states and of one more.
+fn graph_room() -> [u16; 265216] {
+    [0; 265216]
+}
+
+// There is room for the plan of such a graph too. What has no room here differs.
 fn main() {
-    let mut space = [0u8; 524288];
+    let mut space = vectors::space();
     let n = io::read_full(0, &mut space);
-    let mut graph = [0u16; 265216];
+    let mut graph = graph_room();
     let mut plan = [0u16; 4096];
     let mut walked = [0usize; 1024];
     let mut planned = [0usize; 1024];

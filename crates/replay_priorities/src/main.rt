@@ -4,7 +4,7 @@ mod literals;
 mod trees;
 
 fn main() {
-    let mut space = [0u8; 262144];
+    let mut space = vectors::space();
     let n = io::read_full(0, &mut space);
     let mut tree = [0u32; 8192];
     replay(&space[..n], &mut tree);

@@ -13,13 +13,18 @@ mod texts;
 
 use crate::counted::Counted;
 
+// Room for a table or a graph.
+fn word_room() -> [u16; 65536] {
+    [0; 65536]
+}
+
 // What has no room here differs.
 fn main() {
-    let mut space = [0u8; 262144];
+    let mut space = vectors::space();
     let n = io::read_full(0, &mut space);
-    let mut table = [0u16; 65536];
-    let mut stored = [0u16; 65536];
-    let mut built = [0u16; 65536];
+    let mut table = word_room();
+    let mut stored = word_room();
+    let mut built = word_room();
     let mut errors = [0u16; 4096];
     let mut out = [0usize; 16384];
     replay(

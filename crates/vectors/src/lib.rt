@@ -6,12 +6,20 @@
 
 ghost use mathlib.Core.Path.{_≡_};
 ghost use Prim.Native.Nat.{_<_, min, _+_};
-ghost use lib.ListN.{length};
+ghost use lib.ListN.{length, replicate};
 ghost use Rattle.vectors.specs.Reading.{byteAt, halfAt, wordAt, bitAt, flagsAt, partAt};
 
 pub mod parts;
 pub mod runs;
 pub mod tally;
+
+// Room for a list. Large buffers are made by calls: to lend an array that it makes itself, a function has to prove its length, which is found by
+// counting.
+pub fn space() -> [u8; 524288]
+    ensures { λ r. ⌜ r ≡ replicate 524288 0 ⌝ }
+{
+    [0; 524288]
+}
 
 // The byte at a place.
 pub fn byte(list: &[u8], at: usize) -> u8

@@ -1,25 +1,22 @@
--- `replay_images` is safe and ends. The measure is what is left of the kinds. Assumes nothing.
+-- `replay` is safe and ends. The measure is what is left of the kinds. Assumes nothing.
 use borrow.Author.Needs.{needs}
 use Prim.Native.Nat.{_-_, _≤_}
 use lib.ListN.{length}
 use mathlib.Core.Path.{_≡_}
-use Rattle.replay_builds.proofs.replay_images.Statement.{statement}
-use Rattle.replay_builds.proofs.replay_images.Tie as tie
+use Rattle.replay_builds.proofs.replay.Statement.{statement}
+use Rattle.replay_builds.proofs.replay.Tie as tie
 
 abbrev Inv-loop : tie.InvT-loop
-Inv-loop list table₀ graph₀ errors₀ image₀ kind₀ t8 table graph errors image kind = (kind ≤ 10) × (length table ≡ length table₀) × (length graph ≡ length graph₀) × (length errors ≡ length errors₀) × (length image ≡ length image₀)
+Inv-loop list from-image table₀ graph₀ errors₀ image₀ kind₀ table graph errors image kind = (kind ≤ 10) × (length table ≡ length table₀) × (length graph ≡ length graph₀) × (length errors ≡ length errors₀) × (length image ≡ length image₀)
 
 abbrev μ-loop : tie.MeasureT-loop
-μ-loop list table₀ graph₀ errors₀ image₀ kind₀ t8 table graph errors image kind = 10 - kind
+μ-loop list from-image table₀ graph₀ errors₀ image₀ kind₀ table graph errors image kind = 10 - kind
 
 loop-holds : tie.Need-loop-holds Inv-loop μ-loop
 loop-holds c = search needs
 
-by-image-requires : tie.Need-by-image-requires Inv-loop μ-loop
-by-image-requires c κs = search needs
-
-slice-aggregate-tell : tie.Need-slice-aggregate-tell Inv-loop μ-loop
-slice-aggregate-tell c = search needs
+of-kind-requires : tie.Need-of-kind-requires Inv-loop μ-loop
+of-kind-requires c κs = search needs
 
 tell-requires : tie.Need-tell-requires Inv-loop μ-loop
 tell-requires c κs = search needs
@@ -48,15 +45,14 @@ same-length-4 c = search needs
 returns : tie.Need-returns Inv-loop μ-loop
 returns c = search needs
 
-pub replay-images-spec : {M : Type 1} → statement M
-replay-images-spec =
+pub replay-spec : {M : Type 1} → statement M
+replay-spec =
     tie.close
     (tie.spec
     Inv-loop
     μ-loop
     loop-holds
-    by-image-requires
-    slice-aggregate-tell
+    of-kind-requires
     tell-requires
     add-kind
     loop-less
