@@ -2,6 +2,7 @@
 // words, and must leave the same.
 use mask_store::MaskStore;
 use plans::list::ListAnswer;
+use plans::list::Listed;
 use plans::scan::Place;
 use plans::scan::Scan;
 
@@ -126,6 +127,13 @@ struct Spot {
     pub same: bool,
 }
 
+// Whether a call of each answered and left the same.
+fn same_call(one: Listed, other: Listed, walked: &[usize], planned: &[usize]) -> bool {
+    let by_walk = one.answer;
+    let by_plan = other.answer;
+    same_answer(by_walk, by_plan) && same_scan(one.scan, other.scan) && same_words(walked, planned)
+}
+
 // A call of each from the same scan.
 fn call(
     graph: &[u16],
@@ -141,14 +149,9 @@ fn call(
     fill(planned);
     let w = plans::list::scan_list(scan, graph, text, walked);
     let p = plans::planned::scan_planned(scan, graph, plan, store, text, planned);
-    let by_walk = w.answer;
-    let by_plan = p.answer;
     Spot {
         scan: p.scan,
-        same: spot.same
-            && same_answer(by_walk, by_plan)
-            && same_scan(w.scan, p.scan)
-            && same_words(walked, planned),
+        same: spot.same && same_call(w, p, walked, planned),
     }
 }
 

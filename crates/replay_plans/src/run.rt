@@ -86,46 +86,56 @@ fn with_more(store: MaskStore, list: &[u8], at: usize) -> MaskStore {
     added.store
 }
 
-// Run i, by the words that it is given; by more words, if it is given all, and a store with a class more, if it has the one that planning left: the
-// outcome is the same, and the plan sound. Where it is not refused, the walk of the graph reads the same, and lists the same as the plan.
-fn given_alike(
+// A run by the words that it is given; and by more words, if it is given all, and a store with a class more, if it has the one that planning left:
+// the outcome is the same.
+fn outcomes_alike(
     graph: &[u16],
     plan: &[u16],
     longer: &[u16],
     store: MaskStore,
     wider: MaskStore,
+    list: &[u8],
+    a: Attempt,
+) -> bool {
+    let text = vectors::part(list, a.text, a.length);
+    let just = outcome_alike(plans::run::run(graph, plan, store, text), list, a.outcome);
+    let more = outcome_alike(plans::run::run(graph, longer, wider, text), list, a.outcome);
+    just && more
+}
+
+// Run i, which was alike so far or not: where it is not refused, the walk of the graph reads the same, and lists the same as the plan.
+fn beside_walk(
+    graph: &[u16],
+    plan: &[u16],
+    store: MaskStore,
     i: usize,
     list: &[u8],
     a: Attempt,
-    sound: bool,
+    same: bool,
     walked: &mut [usize],
     planned: &mut [usize],
 ) -> Seen {
     let text = vectors::part(list, a.text, a.length);
     let refusal = vectors::count(list, a.outcome);
     let end = vectors::after(list, a.outcome, 5);
-    let just = outcome_alike(plans::run::run(graph, plan, store, text), list, a.outcome);
-    let more = outcome_alike(plans::run::run(graph, longer, wider, text), list, a.outcome);
     if refusal == 0 {
+        let by_walk = outcome_alike(graph::read::read_graph(graph, text), list, a.outcome);
         return Seen {
             at: end,
             refused: false,
-            run: sound
-                && just
-                && more
-                && outcome_alike(graph::read::read_graph(graph, text), list, a.outcome),
+            run: same && by_walk,
             list: crate::lists::alike(graph, plan, store, text, i, walked, planned),
         };
     }
     Seen {
         at: end,
         refused: true,
-        run: sound && just && more,
+        run: same,
         list: crate::lists::all_refuse(graph, plan, store, text, refusal, walked, planned),
     }
 }
 
-// Run i, by a buffer that begins with its plan; `all` says that it is given all of that.
+// Run i, by a buffer that begins with its plan, which is sound or not; `all` says that it is given all of that.
 fn by_words(
     list: &[u8],
     noted: Counted,
@@ -149,16 +159,16 @@ fn by_words(
     } else {
         before
     };
-    let seen = given_alike(
+    let given = front(plan, a.words);
+    let same = outcomes_alike(graph, given, front(plan, longer), store, wider, list, a);
+    let seen = beside_walk(
         graph,
-        front(plan, a.words),
-        front(plan, longer),
+        given,
         store,
-        wider,
         i,
         list,
         a,
-        sound,
+        sound && same,
         walked,
         planned,
     );

@@ -29,6 +29,27 @@ fn refusal_alike(graph: &[u16], refusal: usize, text: &[u8], out: &mut [usize]) 
     refusal == 12 && all_refuse(graph, text, out)
 }
 
+// A scan from an offset that is refused, by 14 alone; the reading was alike or not. The list is read on at that place.
+fn scan_refused(
+    graph: &[u16],
+    text: &[u8],
+    offset: usize,
+    refusal: usize,
+    reading: bool,
+    at: usize,
+    out: &mut [usize],
+) -> Seen {
+    let scan = crate::scan::begun(offset);
+    Seen {
+        at: at,
+        reading: reading,
+        clean: false,
+        agreed: false,
+        scan: refusal == 14 && crate::scan::refused(scan, graph, text, 14),
+        list: refusal == 14 && crate::lists::refused(scan, graph, text, 14, out),
+    }
+}
+
 // The text with number i, at a place, and a scan that begins at the offset that is said.
 fn text_alike(list: &[u8], at: usize, graph: &[u16], i: usize, out: &mut [usize]) -> Seen {
     let text = crate::texts::text(list, at);
@@ -37,24 +58,16 @@ fn text_alike(list: &[u8], at: usize, graph: &[u16], i: usize, out: &mut [usize]
     let refusal = vectors::count(list, vectors::after(list, read, 8));
     let pieces = vectors::after(list, read, 9);
     let reading = crate::reading::alike(graph::read::read_graph(graph, text), list, read);
-    if refusal == 0 {
-        return Seen {
-            at: crate::scan::pieces_end(list, pieces),
-            reading: reading,
-            clean: false,
-            agreed: false,
-            scan: crate::scan::alike(graph, text, offset, list, pieces),
-            list: crate::lists::alike(graph, text, offset, list, pieces, i, out),
-        };
+    if refusal != 0 {
+        return scan_refused(graph, text, offset, refusal, reading, pieces, out);
     }
-    let scan = crate::scan::begun(offset);
     Seen {
-        at: pieces,
+        at: crate::scan::pieces_end(list, pieces),
         reading: reading,
         clean: false,
         agreed: false,
-        scan: refusal == 14 && crate::scan::refused(scan, graph, text, 14),
-        list: refusal == 14 && crate::lists::refused(scan, graph, text, 14, out),
+        scan: crate::scan::alike(graph, text, offset, list, pieces),
+        list: crate::lists::alike(graph, text, offset, list, pieces, i, out),
     }
 }
 

@@ -1,8 +1,23 @@
 // Tables: the build, whether they are clean, and each text, read by the table and by the graph, scanned and listed.
 use crate::counted::Counted;
 use crate::counted::Seen;
+use graph::read::Read;
 
 // ---- texts
+
+// The readings of a text by its table and by its two graphs, against those at two places.
+fn readings_alike(
+    by_table: Read,
+    by_stored: Read,
+    by_built: Read,
+    list: &[u8],
+    table: usize,
+    graph: usize,
+) -> bool {
+    crate::reading::alike(by_table, list, table)
+        && crate::reading::alike(by_stored, list, graph)
+        && crate::reading::alike(by_built, list, graph)
+}
 
 // The text with number i, at a place.
 fn text_alike(
@@ -24,9 +39,14 @@ fn text_alike(
     let built_read = graph::read::read_graph(built, text);
     Seen {
         at: crate::scan::pieces_end(list, pieces),
-        reading: crate::reading::alike(table_read, list, by_table)
-            && crate::reading::alike(stored_read, list, by_graph)
-            && crate::reading::alike(built_read, list, by_graph),
+        reading: readings_alike(
+            table_read,
+            stored_read,
+            built_read,
+            list,
+            by_table,
+            by_graph,
+        ),
         clean: clean,
         agreed: crate::reading::agree(table_read, built_read),
         scan: crate::scan::alike(stored, text, 0, list, pieces),
