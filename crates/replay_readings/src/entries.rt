@@ -59,7 +59,7 @@ pub(crate) fn compare(
     let mut from = start;
     let mut same = true;
     for k in 0..n {
-        let end = crate::scans::piece_end(list, place, text, from);
+        let end = crate::scan::piece_end(list, place, text, from);
         same = same
             && word_is(out, 3 * k, from)
             && word_is(out, 3 * k + 1, end)

@@ -7,14 +7,14 @@ use plans::scan::Scan;
 // Whether every call on the graph is refused by 12, whatever the scan: 12 goes before 14 and 16.
 fn all_refuse(graph: &[u16], text: &[u8], out: &mut [usize]) -> bool {
     let fresh = Scan::new();
-    let past = crate::scans::begun(text.len() + 1);
+    let past = crate::scan::begun(text.len() + 1);
     let over = Scan {
         place: Place::Ended,
     };
-    let read = crate::readings::refusal(graph::read::read_graph(graph, text)) == 12;
-    let scan = crate::scans::refused(fresh, graph, text, 12)
-        && crate::scans::refused(past, graph, text, 12)
-        && crate::scans::refused(over, graph, text, 12);
+    let read = crate::reading::refusal(graph::read::read_graph(graph, text)) == 12;
+    let scan = crate::scan::refused(fresh, graph, text, 12)
+        && crate::scan::refused(past, graph, text, 12)
+        && crate::scan::refused(over, graph, text, 12);
     let list = crate::lists::refused(fresh, graph, text, 12, out);
     let past_list = crate::lists::refused(past, graph, text, 12, out);
     let over_list = crate::lists::refused(over, graph, text, 12, out);
@@ -24,7 +24,7 @@ fn all_refuse(graph: &[u16], text: &[u8], out: &mut [usize]) -> bool {
 // The refusal that is said of reading and scan, 0 or 12. A refused graph has no texts: the bytes that say its refusal are one.
 fn refusal_alike(graph: &[u16], refusal: usize, text: &[u8], out: &mut [usize]) -> bool {
     if refusal == 0 {
-        return crate::readings::refusal(graph::read::read_graph(graph, text)) == 0;
+        return crate::reading::refusal(graph::read::read_graph(graph, text)) == 0;
     }
     refusal == 12 && all_refuse(graph, text, out)
 }
@@ -36,24 +36,24 @@ fn text_alike(list: &[u8], at: usize, graph: &[u16], i: usize, out: &mut [usize]
     let offset = vectors::word(list, vectors::after(list, read, 4));
     let refusal = vectors::count(list, vectors::after(list, read, 8));
     let pieces = vectors::after(list, read, 9);
-    let reading = crate::readings::alike(graph::read::read_graph(graph, text), list, read);
+    let reading = crate::reading::alike(graph::read::read_graph(graph, text), list, read);
     if refusal == 0 {
         return Seen {
-            at: crate::scans::pieces_end(list, pieces),
+            at: crate::scan::pieces_end(list, pieces),
             reading: reading,
             clean: false,
             agreed: false,
-            scan: crate::scans::alike(graph, text, offset, list, pieces),
+            scan: crate::scan::alike(graph, text, offset, list, pieces),
             list: crate::lists::alike(graph, text, offset, list, pieces, i, out),
         };
     }
-    let scan = crate::scans::begun(offset);
+    let scan = crate::scan::begun(offset);
     Seen {
         at: pieces,
         reading: reading,
         clean: false,
         agreed: false,
-        scan: refusal == 14 && crate::scans::refused(scan, graph, text, 14),
+        scan: refusal == 14 && crate::scan::refused(scan, graph, text, 14),
         list: refusal == 14 && crate::lists::refused(scan, graph, text, 14, out),
     }
 }

@@ -40,9 +40,9 @@ fn call(
     let next = l.scan;
     let e = crate::entries::compare(out, n, text, spot.start, list, spot.at);
     let moved = if last {
-        crate::scans::has_ended(next)
+        crate::scan::has_ended(next)
     } else {
-        crate::scans::reads_at(next, e.start)
+        crate::scan::reads_at(next, e.start)
     };
     Spot {
         at: e.at,
@@ -71,7 +71,7 @@ pub(crate) fn refused(
         ListAnswer::Listed(_) => false,
         ListAnswer::Refused(n) => n as usize == refusal,
     };
-    same && crate::scans::same_scan(l.scan, scan) && crate::entries::as_found(out, 0)
+    same && crate::scan::same_scan(l.scan, scan) && crate::entries::as_found(out, 0)
 }
 
 // ---- a text
@@ -81,7 +81,7 @@ fn first(offset: usize, list: &[u8], at: usize) -> Spot {
     Spot {
         at: vectors::after(list, at, 2),
         start: offset,
-        scan: crate::scans::begun(offset),
+        scan: crate::scan::begun(offset),
         same: true,
     }
 }

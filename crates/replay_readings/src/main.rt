@@ -6,8 +6,8 @@ mod counted;
 mod entries;
 mod graphs;
 mod lists;
-mod readings;
-mod scans;
+mod reading;
+mod scan;
 mod tables;
 mod texts;
 

@@ -23,13 +23,13 @@ fn text_alike(
     let stored_read = graph::read::read_graph(stored, text);
     let built_read = graph::read::read_graph(built, text);
     Seen {
-        at: crate::scans::pieces_end(list, pieces),
-        reading: crate::readings::alike(table_read, list, by_table)
-            && crate::readings::alike(stored_read, list, by_graph)
-            && crate::readings::alike(built_read, list, by_graph),
+        at: crate::scan::pieces_end(list, pieces),
+        reading: crate::reading::alike(table_read, list, by_table)
+            && crate::reading::alike(stored_read, list, by_graph)
+            && crate::reading::alike(built_read, list, by_graph),
         clean: clean,
-        agreed: crate::readings::agree(table_read, built_read),
-        scan: crate::scans::alike(stored, text, 0, list, pieces),
+        agreed: crate::reading::agree(table_read, built_read),
+        scan: crate::scan::alike(stored, text, 0, list, pieces),
         list: crate::lists::alike(built, text, 0, list, pieces, i, out),
     }
 }

@@ -1,4 +1,4 @@
-//! The readings as Rust loops with unchecked indexing: the same steps as crates/graph/src/read.rt, crates/plans/src and crates/words/src/graph.rt take.
+//! The readings as Rust loops with unchecked indexing: the same steps as crates/readings/src/read.rt, crates/scans/src and crates/words/src/graph.rt take.
 //! Nothing but the check of the graph words keeps the indices inside.
 
 pub const NONE: usize = 65_535;

@@ -1,5 +1,5 @@
 -- No top record: no leaf. A second record of the top's priority: a tie, no leaf. Else the top record's leaf. Assumes nothing.
-use mathlib.Core.Path.{sym, ap, _∙_}
+use mathlib.Core.Path.{_≡_, sym, ap, _∙_}
 use mathlib.Core.Option.{Option, Option·getD}
 use Prim.Native.Nat.{ℕ}
 use native.Mathlib.Omega.{arith}
@@ -39,7 +39,8 @@ returns-3 c =
     let w = at .args .table .now in
     let t = tableOf w in
     let e = c .before .before .before .before .top .ensures .0 in
-    let n = ap (nextTied t) (sym e) ∙ sym (c .before .before .next-tied .ensures .0) ∙ c .before .if2 .left in
+    let z : c .before .before .next-tied .result ≡ 0 = omega arith in
+    let n = ap (nextTied t) (sym e) ∙ sym (c .before .before .next-tied .ensures .0) ∙ z in
     c .match-leaf .ensures .0
     ∙ ap (λ (i : ℕ). matchOf t i .leaf) e
     ∙ sym (ap (λ (o : Option ℕ). Option·getD o 255) (leaf-one w (at .pre .0) (at .args .s) (omega arith) n))

@@ -1,8 +1,8 @@
 -- `scans::alike` is safe and ends. The measure is what is left of the pieces. Assumes nothing.
 use borrow.Author.Needs.{needs}
 use Prim.Native.Nat.{_-_}
-use Rattle.replay_readings.proofs.scans.alike.Statement.{statement}
-use Rattle.replay_readings.proofs.scans.alike.Tie as tie
+use Rattle.replay_readings.proofs.scan.alike.Statement.{statement}
+use Rattle.replay_readings.proofs.scan.alike.Tie as tie
 
 abbrev Inv-loop : tie.InvT-loop
 Inv-loop graph text offset list at n place₀ start₀ scan₀ i₀ place start scan i = Unit {0}
