@@ -1,5 +1,6 @@
 pub mod Walks
 pub mod Views
+pub mod FromRoot
 pub mod Nones
 pub mod Rename
 pub mod Merge
@@ -10,7 +11,6 @@ pub mod Shape
 pub mod Alike
 pub mod Unpruned
 pub mod Reached
-pub mod FromRoot
 pub mod Fits
 pub mod Words
 pub mod LeafWords
