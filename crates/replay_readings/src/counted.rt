@@ -44,7 +44,7 @@ fn more(t: Tally, at: usize, same: bool) -> Tally {
     vectors::tally::noted(t, Case { at: at, same: same })
 }
 
-// One table or graph more; its texts stand at that place.
+// One graph more, or the build of one table; its texts stand at that place.
 pub(crate) fn case_noted(c: Counted, at: usize, same: bool) -> Counted {
     let mut d = c;
     d.at = at;
@@ -52,10 +52,10 @@ pub(crate) fn case_noted(c: Counted, at: usize, same: bool) -> Counted {
     d
 }
 
-// One verdict more on a table.
-pub(crate) fn verdict_noted(c: Counted, same: bool) -> Counted {
-    let mut d = c;
-    d.verdicts = more(c.verdicts, c.at, same);
+// One table more: whether its build was alike, and whether the verdict on it was.
+pub(crate) fn table_noted(c: Counted, at: usize, same: bool, verdict: bool) -> Counted {
+    let mut d = case_noted(c, at, same);
+    d.verdicts = more(c.verdicts, at, verdict);
     d
 }
 

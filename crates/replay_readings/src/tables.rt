@@ -93,6 +93,7 @@ fn by_words(
     let graph = vectors::runs::end(list, before.at);
     let said = vectors::runs::end(list, graph);
     let clean = vectors::count(list, said);
+    let verdict = crate::build::verdict_alike(table, clean);
     let size = crate::build::size(table, i);
     let value = crate::build::pattern(i);
     let same = crate::build::alike(
@@ -106,8 +107,7 @@ fn by_words(
         list,
         graph,
     );
-    let noted = crate::counted::case_noted(before, vectors::after(list, said, 1), same);
-    let c = crate::counted::verdict_noted(noted, crate::build::verdict_alike(table, clean));
+    let c = crate::counted::table_noted(before, vectors::after(list, said, 1), same, verdict);
     let whole = crate::texts::front(built, size);
     all_texts(list, c, table, stored, whole, clean == 1, out)
 }
