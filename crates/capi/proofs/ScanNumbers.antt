@@ -9,14 +9,14 @@ use lib.Dec.{eqb, ltb}
 use lib.ListN.{length, drop}
 use Rattle.lists.specs.Told.{Told}
 use Rattle.lists.proofs.Bools.{Is, yes-is, no-is, is}
-use Rattle.rules.specs.Graph.{Graph, graphFits, graphFrom}
+use Rattle.graph_rules.specs.Graph.{Graph, graphFits, graphFrom}
 use Rattle.scans.specs.declared.scan.Place.{Place}
 use Rattle.scans.specs.declared.scan.Place.the-variants.{Reading, Ended}
 use Rattle.scans.specs.declared.scan.Scan.{Scan}
 use Rattle.scans.specs.declared.scan.Answer.{Answer}
 use Rattle.scans.specs.declared.scan.Answer.the-variants.{Token, Gap, Ended as AtEnd, Refused}
 use Rattle.scans.specs.declared.scan.Entry.{Entry}
-use Rattle.rules.specs.Read.{readGraph}
+use Rattle.graph_rules.specs.Read.{readGraph}
 use Rattle.scans.specs.Scan.{readingAt, hasEnded, scanTold, entryOf, scannedBy, scanFrom, scanAt, scanOf as scannedOf, next}
 use Rattle.mask_store.specs.declared.MaskStore.{MaskStore}
 use Rattle.plan_rules.specs.Plan.{base}

@@ -5,10 +5,10 @@ use mathlib.Core.Bool.{Bool, true, false, false≢true}
 use mathlib.Core.List.{List, [], _∷_, map}
 use native.Mathlib.Omega.{arith}
 use lib.ListN.{length, getD}
-use Rattle.rules.specs.Table.{tableOf}
-use Rattle.rules.specs.Graph.{FromRoot, reachedStates}
-use Rattle.rules.specs.Build.{build}
-use Rattle.rules.proofs.FromRoot.{computed-reached, reached-computed}
+use Rattle.graph_rules.specs.Table.{tableOf}
+use Rattle.graph_rules.specs.Graph.{FromRoot, reachedStates}
+use Rattle.graph_rules.specs.Build.{build}
+use Rattle.graph_rules.proofs.FromRoot.{computed-reached, reached-computed}
 use Rattle.cases.specs.Answers.{graphOf}
 use Rattle.cases.specs.Table.{k1, k4}
 use Rattle.cases.specs.Cleanness.{cleanNumbers, zeroBack, zeroLeaf, cleanness}

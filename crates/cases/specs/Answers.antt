@@ -8,10 +8,10 @@ use Rattle.classes.specs.Classes.{Class, ranges, comparisons, cost}
 use Rattle.utf8.specs.Utf8.{lines, divided, codePoints}
 use Rattle.trees.specs.Tree.{recordOf, treeOf, chainFrom, chainAt, treeAt, root, rules, ruleOf, fieldsFit, recordFits, named, treeFits}
 use Rattle.pattern.specs.Priority.{priority, valueAt, tooHigh, priorityOf, priorityTold}
-use Rattle.rules.specs.Table.{tableOf, refusal, conditions, matchFits, size, rowOf, step, leafAt, matchOf, countsFit, emptiesFit, targetsFit, headsFit, recordsFit}
-use Rattle.rules.specs.Graph.{stateOf, to, acceptOf, earlyOf, leads, same, stateWords, graphWords, stateFrom, graphFrom, graphFits}
-use Rattle.rules.specs.Build.{errorWords, build, emptyLeaves, unpruned, merged, mergesNone, mergeRound, pruned, kept, withCleared, cleared, covered, withEarly, children, wholeGraph, firstState, ties, leafOf, contenders, chain, restrict, relabel, renamed, reached}
-use Rattle.rules.specs.Read.{readTable, readGraph, tableWalker, graphWalker}
+use Rattle.graph_rules.specs.Table.{tableOf, refusal, conditions, matchFits, size, rowOf, step, leafAt, matchOf, countsFit, emptiesFit, targetsFit, headsFit, recordsFit}
+use Rattle.graph_rules.specs.Graph.{stateOf, to, acceptOf, earlyOf, leads, same, stateWords, graphWords, stateFrom, graphFrom, graphFits}
+use Rattle.graph_rules.specs.Build.{errorWords, build, emptyLeaves, unpruned, merged, mergesNone, mergeRound, pruned, kept, withCleared, cleared, covered, withEarly, children, wholeGraph, firstState, ties, leafOf, contenders, chain, restrict, relabel, renamed, reached}
+use Rattle.graph_rules.specs.Read.{readTable, readGraph, tableWalker, graphWalker}
 use Rattle.readings.specs.Answers.{readTold, tableRead, graphRead}
 use Rattle.graph.specs.New.{conflicts, wrote, wroteOr9, writtenOr, newOf, imageOf}
 use Rattle.scans.specs.declared.scan.Scan.{Scan}

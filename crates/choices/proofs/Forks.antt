@@ -11,8 +11,8 @@ use Rattle.lists.specs.Lists.{below, anyL, allL, those}
 use Rattle.lists.proofs.Elements.{length-tab, getD-tab0, all-at, all-intro, eqb-sound}
 use Rattle.lists.proofs.Distinct.{those-keep}
 use Rattle.lists.proofs.Those.{those-more, those-same}
-use Rattle.rules.specs.Graph.{State, Graph, stateOf, graphFrom}
-use Rattle.rules.proofs.Flat.{from-length}
+use Rattle.graph_rules.specs.Graph.{State, Graph, stateOf, graphFrom}
+use Rattle.graph_rules.proofs.Flat.{from-length}
 use Rattle.edges.specs.Edges.{leadsTo, targets}
 use Rattle.edges.proofs.ByTarget.{target-leads}
 use Rattle.choices.specs.declared.fork.Fork.{Fork}

@@ -9,7 +9,7 @@ use lib.Dec.{eqb, ltb}
 use lib.ListN.{length, getD, replicate, length-append, length-map, length-replicate}
 use Rattle.lists.specs.Lists.{anyL, allL}
 use Rattle.lists.proofs.Bools.{Is, is, yes-is, no-is, and-both, and-intro}
-use Rattle.rules.specs.Graph.{State, Graph, stateOf}
+use Rattle.graph_rules.specs.Graph.{State, Graph, stateOf}
 use Rattle.classes.specs.Classes.{Class, cost}
 use Rattle.edges.specs.Edges.{classTo, targets}
 use Rattle.mask_store.specs.Masks.{storeOf, held, numberOf}

@@ -10,9 +10,9 @@ use lib.Dec.{eqb}
 use lib.ListN.{length, getD}
 use Rattle.lists.specs.Lists.{anyL, allL}
 use Rattle.lists.proofs.Bools.{and-both, and-intro, Order, less, equal, more, order}
-use Rattle.rules.specs.Graph.{State, Graph, stateOf, graphFrom, graphFits}
-use Rattle.rules.proofs.Flat.{from-length, from-width}
-use Rattle.rules.proofs.Taken.{taken-long}
+use Rattle.graph_rules.specs.Graph.{State, Graph, stateOf, graphFrom, graphFits}
+use Rattle.graph_rules.proofs.Flat.{from-length, from-width}
+use Rattle.graph_rules.proofs.Taken.{taken-long}
 use Rattle.classes.specs.Classes.{Class}
 use Rattle.edges.specs.Edges.{classTo, targets}
 use Rattle.edges.proofs.ByTarget.{class-whole}

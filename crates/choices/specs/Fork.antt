@@ -4,7 +4,7 @@ use Prim.Native.Nat.{ℕ}
 use lib.Dec.{eqb}
 use lib.ListN.{length, getD}
 use Rattle.lists.specs.Lists.{anyL}
-use Rattle.rules.specs.Graph.{Graph, stateOf}
+use Rattle.graph_rules.specs.Graph.{Graph, stateOf}
 use Rattle.edges.specs.Edges.{targets}
 use Rattle.choices.specs.declared.fork.Fork.{Fork}
 

@@ -3,7 +3,7 @@ ghost use mathlib.Core.Path.{_≡_};
 ghost use mathlib.Core.Bool.{true};
 ghost use Prim.Native.Nat.{_<_};
 ghost use lib.ListN.{getD};
-ghost use Rattle.rules.specs.Graph.{graphFits, graphFrom};
+ghost use Rattle.graph_rules.specs.Graph.{graphFits, graphFrom};
 ghost use Rattle.choices.specs.Fork.{forkOf};
 
 // How many states the byte edges lead to, whether one of them is the state itself, and the two lowest (0 where there is none).

@@ -4,7 +4,7 @@ ghost use mathlib.Core.Bool.{true, cond};
 ghost use mathlib.Core.List.{[], _∷_};
 ghost use Prim.Native.Nat.{_<_};
 ghost use lib.ListN.{getD};
-ghost use Rattle.rules.specs.Graph.{graphFits, graphFrom, stateOf};
+ghost use Rattle.graph_rules.specs.Graph.{graphFits, graphFrom, stateOf};
 ghost use Rattle.edges.specs.Edges.{classTo};
 ghost use Rattle.mask_store.specs.Masks.{allowed};
 ghost use Rattle.plan_rules.specs.Plan.{base, wayTo, masked, stateNeeds, needs};

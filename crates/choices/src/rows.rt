@@ -6,7 +6,7 @@ ghost use Prim.Native.Nat.{suc, _+_, _*_, _<_, _≤_};
 ghost use lib.Dec.{eqb};
 ghost use lib.ListN.{length, getD, take, drop};
 ghost use Rattle.lists.specs.Lists.{eqList};
-ghost use Rattle.rules.specs.Graph.{graphFits, graphFrom, stateOf};
+ghost use Rattle.graph_rules.specs.Graph.{graphFits, graphFrom, stateOf};
 ghost use Rattle.edges.specs.Edges.{classTo};
 ghost use Rattle.mask_store.specs.Masks.{storeOf, held, numberOf};
 ghost use Rattle.plan_rules.specs.Plan.{base, wayTo, wayWord, planRow, planWords, planSize};

@@ -11,8 +11,8 @@ use lib.Dec.{eqb}
 use lib.ListN.{length}
 use Rattle.lists.specs.Told.{answering}
 use Rattle.lists.proofs.Tellings.{refusing-as}
-use Rattle.rules.specs.Table.{tableOf, refusal}
-use Rattle.rules.specs.Clean.{Breach, breach}
+use Rattle.graph_rules.specs.Table.{tableOf, refusal}
+use Rattle.graph_rules.specs.Clean.{Breach, breach}
 use Rattle.clean.specs.declared.Verdict.the-variants.{Refused}
 use Rattle.clean.specs.Answers.{verdict, cleanOf, cleanTold, breachValues}
 

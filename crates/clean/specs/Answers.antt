@@ -1,12 +1,12 @@
--- What the call `clean` answers, by the definitions of `rules`. Definitions only.
+-- What the call `clean` answers, by the definitions of `graph_rules`. Definitions only.
 use mathlib.Core.Bool.{true, false}
 use mathlib.Core.List.{List, [], _∷_}
 use mathlib.Core.Option.{Option, none, some}
 use Prim.Native.Nat.{ℕ}
 use lib.Dec.{eqb}
 use Rattle.lists.specs.Told.{Told, telling, refusing}
-use Rattle.rules.specs.Table.{tableOf, refusal}
-use Rattle.rules.specs.Clean.{Breach, breach}
+use Rattle.graph_rules.specs.Table.{tableOf, refusal}
+use Rattle.graph_rules.specs.Clean.{Breach, breach}
 use Rattle.clean.specs.declared.Verdict.{Verdict}
 use Rattle.clean.specs.declared.Verdict.the-variants.{Clean, Breaks, Refused}
 

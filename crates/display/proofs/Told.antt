@@ -9,7 +9,7 @@ use lib.ListN.{length, drop}
 use Rattle.lists.specs.Told.{on, lowest, answering}
 use Rattle.lists.proofs.Bools.{Is, yes-is, no-is, is}
 use Rattle.lists.proofs.Tellings.{lowest-one}
-use Rattle.rules.specs.Graph.{graphFrom, graphFits}
+use Rattle.graph_rules.specs.Graph.{graphFrom, graphFits}
 use Rattle.display.specs.declared.Shown.the-variants.{Bytes}
 use Rattle.display.specs.Display.{displayed, lineOf}
 use Rattle.display.specs.Answers.{Call, shownTold, refused, written, displayCall, errorFits, lineCall}

@@ -6,11 +6,11 @@ use mathlib.Core.List.{List, [], _++_}
 use Prim.Native.Nat.{ℕ}
 use lib.ListN.{length}
 use Rattle.lists.specs.Told.{Told}
-use Rattle.rules.specs.Table.{tableOf, refusal}
-use Rattle.rules.specs.Graph.{graphFrom, graphFits}
-use Rattle.rules.specs.Build.{emptyLeaves}
-use Rattle.rules.specs.Read.{Bytes, Orderly, Clean, Reading}
-use Rattle.rules.proofs.Promises.{built-taken, clean-no-empty, words-alike}
+use Rattle.graph_rules.specs.Table.{tableOf, refusal}
+use Rattle.graph_rules.specs.Graph.{graphFrom, graphFits}
+use Rattle.graph_rules.specs.Build.{emptyLeaves}
+use Rattle.graph_rules.specs.Read.{Bytes, Orderly, Clean, Reading}
+use Rattle.graph_rules.proofs.Promises.{built-taken, clean-no-empty, words-alike}
 use Rattle.readings.specs.declared.read.Read.{Read}
 use Rattle.graph.specs.declared.new.Counts.{Counts}
 use Rattle.graph.specs.declared.new.Answer.the-variants.{Built as Made}

@@ -10,8 +10,8 @@ use lib.Dec.{eqb, ltb}
 use lib.ListN.{length, getD}
 use Rattle.lists.specs.Told.{on, lowest, answering}
 use Rattle.lists.proofs.Tellings.{lowest-one}
-use Rattle.rules.specs.Table.{tableOf, refusal}
-use Rattle.rules.specs.Build.{Built, build}
+use Rattle.graph_rules.specs.Table.{tableOf, refusal}
+use Rattle.graph_rules.specs.Build.{Built, build}
 use Rattle.graph.specs.declared.new.Answer.{Answer}
 use Rattle.graph.specs.declared.new.Answer.the-variants.{Built as Made, Refused}
 use Rattle.graph.specs.New.{builtTold, Outcome, refusedBy, countsOf, conflicts, wrote, wroteOr9, writtenOr, newOf, wordsOf, imageOf}

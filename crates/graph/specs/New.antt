@@ -5,9 +5,9 @@ use Prim.Native.Nat.{ℕ, _+_, _*_, _%_}
 use lib.Dec.{eqb, ltb}
 use lib.ListN.{length, getD, drop}
 use Rattle.lists.specs.Told.{Told, telling, refusing}
-use Rattle.rules.specs.Table.{tableOf, refusal}
-use Rattle.rules.specs.Graph.{graphBuffer}
-use Rattle.rules.specs.Build.{Built, errorWords, build}
+use Rattle.graph_rules.specs.Table.{tableOf, refusal}
+use Rattle.graph_rules.specs.Graph.{graphBuffer}
+use Rattle.graph_rules.specs.Build.{Built, errorWords, build}
 use Rattle.graph.specs.declared.new.Counts.{Counts}
 use Rattle.graph.specs.declared.new.Answer.{Answer}
 use Rattle.graph.specs.declared.new.Answer.the-variants.{Built as Made, Refused}

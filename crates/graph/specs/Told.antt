@@ -5,8 +5,8 @@ use Prim.Native.Nat.{ℕ, _+_, _*_, _%_}
 use lib.Dec.{eqb, ltb}
 use lib.ListN.{length, getD}
 use Rattle.lists.specs.Told.{on, lowest}
-use Rattle.rules.specs.Table.{tableOf, refusal}
-use Rattle.rules.specs.Build.{Built, build}
+use Rattle.graph_rules.specs.Table.{tableOf, refusal}
+use Rattle.graph_rules.specs.Build.{Built, build}
 use Rattle.graph.specs.New.{conflicts, wordsOf}
 
 -- table words, graph buffer, error buffer: 1 to 7; 8, "graph buffer below 2 + 258n"; 9, "error buffer below the words needed"

@@ -6,9 +6,9 @@ ghost use mathlib.Core.Option.{some};
 ghost use mathlib.Core.List.{[], _∷_, _++_, map};
 ghost use Prim.Native.Nat.{_+_, _-_, _*_, _≤_};
 ghost use lib.ListN.{length, getD, drop, replicate};
-ghost use Rattle.rules.specs.Table.{tableOf, refusal};
-ghost use Rattle.rules.specs.Graph.{graphBuffer};
-ghost use Rattle.rules.specs.Build.{noUniversalStart, emptyMatch, emptyLeaves, noStates, reached, unpruned, pruned, merged, buildFrom};
+ghost use Rattle.graph_rules.specs.Table.{tableOf, refusal};
+ghost use Rattle.graph_rules.specs.Graph.{graphBuffer};
+ghost use Rattle.graph_rules.specs.Build.{noUniversalStart, emptyMatch, emptyLeaves, noStates, reached, unpruned, pruned, merged, buildFrom};
 ghost use Rattle.graph.specs.New.{Outcome, wroteOr9, newOf};
 
 // How many states the graph has, its root, how many errors there are, and how many words they take.

@@ -7,7 +7,7 @@ use native.Mathlib.Omega.{arith}
 use lib.Dec.{ltb}
 use lib.ListN.{length, drop, length-drop}
 use Rattle.lists.specs.Told.{Told, on, lowest, answering}
-use Rattle.rules.specs.Graph.{Graph, graphFrom, graphFits}
+use Rattle.graph_rules.specs.Graph.{Graph, graphFrom, graphFits}
 use Rattle.classes.specs.Classes.{Class}
 use Rattle.mask_store.specs.declared.MaskStore.{MaskStore}
 use Rattle.mask_store.specs.Masks.{heldWith, grown, takes}

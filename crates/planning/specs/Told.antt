@@ -5,7 +5,7 @@ use Prim.Native.Nat.{ℕ, _*_}
 use lib.Dec.{ltb}
 use lib.ListN.{length, drop}
 use Rattle.lists.specs.Told.{on, lowest}
-use Rattle.rules.specs.Graph.{graphFrom, graphFits}
+use Rattle.graph_rules.specs.Graph.{graphFrom, graphFits}
 use Rattle.classes.specs.Classes.{Class}
 use Rattle.mask_store.specs.declared.MaskStore.{MaskStore}
 use Rattle.mask_store.specs.Masks.{heldWith, takes}

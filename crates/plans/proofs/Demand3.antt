@@ -7,11 +7,11 @@ use mathlib.Core.List.{List, [], _++_}
 use Prim.Native.Nat.{ℕ}
 use borrow.Author.Tests.{le-ltb}
 use lib.ListN.{length, drop}
-use Rattle.rules.specs.Table.{tableOf}
-use Rattle.rules.specs.Graph.{Graph, graphFrom}
-use Rattle.rules.specs.Build.{emptyLeaves}
-use Rattle.rules.specs.Read.{Bytes, Orderly, Clean, readGraph}
-use Rattle.rules.proofs.Promises.{clean-no-empty}
+use Rattle.graph_rules.specs.Table.{tableOf}
+use Rattle.graph_rules.specs.Graph.{Graph, graphFrom}
+use Rattle.graph_rules.specs.Build.{emptyLeaves}
+use Rattle.graph_rules.specs.Read.{Bytes, Orderly, Clean, readGraph}
+use Rattle.graph_rules.proofs.Promises.{clean-no-empty}
 use Rattle.readings.specs.declared.read.Read.the-variants.{Refused}
 use Rattle.graph.specs.declared.new.Counts.{Counts}
 use Rattle.graph.specs.declared.new.Answer.the-variants.{Built as Made}

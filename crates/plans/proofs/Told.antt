@@ -10,7 +10,7 @@ use lib.Dec.{eqb, ltb}
 use lib.ListN.{length}
 use Rattle.lists.specs.Told.{on, lowest, answering}
 use Rattle.lists.proofs.Tellings.{lowest-one}
-use Rattle.rules.specs.Graph.{Graph, graphFrom, graphFits}
+use Rattle.graph_rules.specs.Graph.{Graph, graphFrom, graphFits}
 use Rattle.readings.specs.Answers.{readTold}
 use Rattle.readings.specs.Told.{readValues}
 use Rattle.readings.proofs.Told.{refused-or-read}

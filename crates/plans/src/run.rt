@@ -1,7 +1,7 @@
 // A text run by the plan of a graph.
 ghost use mathlib.Core.Path.{_≡_};
 ghost use mathlib.Core.Bool.{true};
-ghost use Rattle.rules.specs.Graph.{graphFits, graphFrom};
+ghost use Rattle.graph_rules.specs.Graph.{graphFits, graphFrom};
 ghost use Rattle.plan_rules.specs.Plan.{base};
 ghost use Rattle.plans.specs.Run.{planRefusal, runRefusal, runCall};
 use mask_store::MaskStore;

@@ -5,8 +5,8 @@ use mathlib.Core.List.{List, [], _∷_}
 use Prim.Native.Nat.{ℕ, zero, suc}
 use lib.ListN.{length}
 use Rattle.lists.specs.Told.{answering}
-use Rattle.rules.specs.Table.{tableOf}
-use Rattle.rules.specs.Build.{Built, build}
+use Rattle.graph_rules.specs.Table.{tableOf}
+use Rattle.graph_rules.specs.Build.{Built, build}
 use Rattle.graph.specs.declared.new.Answer.{Answer}
 use Rattle.graph.specs.New.{wordsOf}
 use Rattle.graph.specs.Told.{imageRefusal}

@@ -1,7 +1,7 @@
 -- What is printed, by the refusal that the build tells; which refusal the call tells. Definitions only.
 use mathlib.Core.List.{List}
 use Prim.Native.Nat.{ℕ, zero, suc}
-use Rattle.rules.specs.Build.{Built}
+use Rattle.graph_rules.specs.Build.{Built}
 use Rattle.display.specs.Told.{noRoom}
 use Rattle.print.specs.Print.{printedBuild, refusedLine, printed}
 

@@ -11,9 +11,9 @@ use lib.Dec.{eqb}
 use lib.ListN.{length}
 use Rattle.lists.specs.Told.{telling, on, answering}
 use Rattle.lists.proofs.Tellings.{refusing-as}
-use Rattle.rules.specs.Table.{tableOf, refusal}
-use Rattle.rules.specs.Graph.{graphFits, graphFrom}
-use Rattle.rules.specs.Read.{Reading, readGraph, readTable}
+use Rattle.graph_rules.specs.Table.{tableOf, refusal}
+use Rattle.graph_rules.specs.Graph.{graphFits, graphFrom}
+use Rattle.graph_rules.specs.Read.{Reading, readGraph, readTable}
 use Rattle.readings.specs.declared.read.Read.the-variants.{Refused}
 use Rattle.readings.specs.Answers.{reading, readTold, graphRead, tableRead}
 use Rattle.readings.specs.Told.{readValues}

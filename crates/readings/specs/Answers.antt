@@ -1,13 +1,13 @@
--- What the calls of this crate answer, by the definitions of `rules`. Definitions only.
+-- What the calls of this crate answer, by the definitions of `graph_rules`. Definitions only.
 use mathlib.Core.Bool.{true, false, cond}
 use mathlib.Core.List.{List, [], _∷_}
 use mathlib.Core.Option.{none, some}
 use Prim.Native.Nat.{ℕ}
 use lib.Dec.{eqb}
 use Rattle.lists.specs.Told.{Told, telling, refusing}
-use Rattle.rules.specs.Table.{tableOf, refusal}
-use Rattle.rules.specs.Graph.{graphFits, graphFrom}
-use Rattle.rules.specs.Read.{Reading, readGraph, readTable}
+use Rattle.graph_rules.specs.Table.{tableOf, refusal}
+use Rattle.graph_rules.specs.Graph.{graphFits, graphFrom}
+use Rattle.graph_rules.specs.Read.{Reading, readGraph, readTable}
 use Rattle.readings.specs.declared.read.Read.{Read}
 use Rattle.readings.specs.declared.read.Read.the-variants.{Found, Nothing, Refused}
 

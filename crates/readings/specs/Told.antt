@@ -2,7 +2,7 @@
 use mathlib.Core.List.{List, [], _∷_}
 use mathlib.Core.Option.{none, some}
 use Prim.Native.Nat.{ℕ}
-use Rattle.rules.specs.Read.{Reading}
+use Rattle.graph_rules.specs.Read.{Reading}
 
 abbrev pub readValues : Reading → List ℕ
 readValues none = 0 ∷ 0 ∷ 0 ∷ []

@@ -3,8 +3,8 @@ ghost use mathlib.Core.Path.{_≡_};
 ghost use mathlib.Core.Bool.{true};
 ghost use Prim.Native.Nat.{ℕ, suc, _/_, _%_, _<_};
 ghost use lib.ListN.{length, getD};
-ghost use Rattle.rules.specs.Graph.{graphFits, graphFrom, orNone};
-ghost use Rattle.rules.specs.Read.{readGraph, mark, late};
+ghost use Rattle.graph_rules.specs.Graph.{graphFits, graphFrom, orNone};
+ghost use Rattle.graph_rules.specs.Read.{readGraph, mark, late};
 ghost use Rattle.readings.specs.Answers.{recorded, reading, graphRead};
 
 // A leaf and where its match ends, or none; or the number of a refusal.

@@ -2,8 +2,8 @@
 ghost use mathlib.Core.Path.{_≡_};
 ghost use Prim.Native.Nat.{_<_};
 ghost use lib.ListN.{getD};
-ghost use Rattle.rules.specs.Table.{tableOf, refusal, step};
-ghost use Rattle.rules.specs.Read.{readTable};
+ghost use Rattle.graph_rules.specs.Table.{tableOf, refusal, step};
+ghost use Rattle.graph_rules.specs.Read.{readTable};
 ghost use Rattle.readings.specs.Answers.{recorded, tableRead};
 use crate::read::Read;
 use crate::read::Record;

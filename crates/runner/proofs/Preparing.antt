@@ -15,8 +15,8 @@ use Rattle.lists.proofs.Bools.{Order, less, equal, more, order}
 use Rattle.lists.proofs.Elements.{length-tab, getD-tab0, all-at, all-intro, eqb-sound}
 use Rattle.lists.proofs.Distinct.{those-keep}
 use Rattle.classes.specs.Classes.{comparisons, cost}
-use Rattle.rules.specs.Graph.{State, Graph, stateOf, graphFrom}
-use Rattle.rules.proofs.Flat.{from-length}
+use Rattle.graph_rules.specs.Graph.{State, Graph, stateOf, graphFrom}
+use Rattle.graph_rules.proofs.Flat.{from-length}
 use Rattle.edges.specs.Edges.{classTo, leadsTo, targets}
 use Rattle.plan_rules.specs.Plan.{base, byTable}
 use Rattle.choices.specs.Fork.{forkIn, forkOf}

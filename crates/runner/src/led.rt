@@ -5,7 +5,7 @@ ghost use mathlib.Core.Bool.{true};
 ghost use mathlib.Core.List.{[]};
 ghost use Prim.Native.Nat.{ℕ, _+_, _*_, _<_, _≤_};
 ghost use lib.ListN.{length, getD};
-ghost use Rattle.rules.specs.Graph.{State, graphFits, graphFrom, orNone};
+ghost use Rattle.graph_rules.specs.Graph.{State, graphFits, graphFrom, orNone};
 ghost use Rattle.classes.specs.Classes.{comparisons};
 ghost use Rattle.edges.specs.Edges.{classTo};
 ghost use Rattle.plan_rules.specs.Plan.{base};

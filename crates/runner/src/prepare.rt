@@ -6,7 +6,7 @@ ghost use Prim.Native.Nat.{ℕ, _+_, _*_, _<_, _≤_};
 ghost use lib.ListN.{length, getD};
 ghost use lib.Seq.{sets};
 ghost use Rattle.classes.specs.Classes.{comparisons, cost};
-ghost use Rattle.rules.specs.Graph.{stateOf, graphFits, graphFrom};
+ghost use Rattle.graph_rules.specs.Graph.{stateOf, graphFits, graphFrom};
 ghost use Rattle.edges.specs.Edges.{classTo};
 ghost use Rattle.runner.specs.Prepared.{testsAt, Prepared};
 use classes::byte_class::Comparisons;

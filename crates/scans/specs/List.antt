@@ -4,7 +4,7 @@ use mathlib.Core.List.{List, [], _∷_, _++_, flatMap}
 use Prim.Native.Nat.{ℕ, zero, suc, _/_, _<_}
 use lib.ListN.{length, drop}
 use Rattle.lists.specs.Told.{Told, telling, refusing}
-use Rattle.rules.specs.Graph.{Graph, graphFrom, graphFits}
+use Rattle.graph_rules.specs.Graph.{Graph, graphFrom, graphFits}
 use Rattle.scans.specs.declared.scan.Scan.{Scan}
 use Rattle.scans.specs.declared.scan.Answer.{Answer}
 use Rattle.scans.specs.declared.scan.Answer.the-variants.{Token, Gap, Ended, Refused}

@@ -6,8 +6,8 @@ use Prim.Native.Nat.{ℕ, _+_}
 use lib.Dec.{eqb, ltb}
 use lib.ListN.{length, drop}
 use Rattle.lists.specs.Told.{Told, telling, refusing}
-use Rattle.rules.specs.Graph.{Graph, graphFrom, graphFits}
-use Rattle.rules.specs.Read.{Reading, readGraph}
+use Rattle.graph_rules.specs.Graph.{Graph, graphFrom, graphFits}
+use Rattle.graph_rules.specs.Read.{Reading, readGraph}
 use Rattle.scans.specs.declared.scan.Place.{Place}
 use Rattle.scans.specs.declared.scan.Place.the-variants.{Reading as ReadingAt, Ended as HasEnded}
 use Rattle.scans.specs.declared.scan.Scan.{Scan}

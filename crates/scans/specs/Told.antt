@@ -5,8 +5,8 @@ use Prim.Native.Nat.{ℕ}
 use lib.Dec.{eqb}
 use lib.ListN.{length, drop}
 use Rattle.lists.specs.Told.{on, lowest}
-use Rattle.rules.specs.Graph.{Graph, graphFits}
-use Rattle.rules.specs.Read.{readGraph}
+use Rattle.graph_rules.specs.Graph.{Graph, graphFits}
+use Rattle.graph_rules.specs.Read.{readGraph}
 use Rattle.scans.specs.declared.scan.Place.{Place}
 use Rattle.scans.specs.declared.scan.Place.the-variants.{Reading as ReadingAt, Ended as HasEnded}
 use Rattle.scans.specs.declared.scan.Scan.{Scan}

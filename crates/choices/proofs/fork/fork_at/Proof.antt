@@ -5,8 +5,8 @@ use mathlib.Core.Bool.{true, false}
 use Prim.Native.Nat.{ℕ, _-_, _≤_, _<_}
 use native.Mathlib.Omega.{arith}
 use lib.ListN.{getD}
-use Rattle.rules.specs.Graph.{stateOf, graphFrom}
-use Rattle.rules.proofs.Taken.{taken-long, taken-few}
+use Rattle.graph_rules.specs.Graph.{stateOf, graphFrom}
+use Rattle.graph_rules.proofs.Taken.{taken-long, taken-few}
 use Rattle.edges.specs.Edges.{leadsTo}
 use Rattle.edges.proofs.ByTarget.{target-flag}
 use Rattle.choices.proofs.Forks.{Forking, forking-none, forking-first, forking-second, forking-later, forking-not, forked}

@@ -5,7 +5,7 @@ use mathlib.Core.Path.{_≡_, sym, _∙_}
 use Prim.Native.Nat.{_-_, _≤_, _<_}
 use native.Mathlib.Omega.{arith}
 use lib.ListN.{length, getD}
-use Rattle.rules.proofs.Taken.{taken-long}
+use Rattle.graph_rules.proofs.Taken.{taken-long}
 use Rattle.plan_rules.specs.Plan.{base}
 use Rattle.choices.proofs.Growing.{by-not}
 use Rattle.choices.proofs.StateNeeds.{Going, going-none, going-allows, going-more, going-refused, going-done}

@@ -4,7 +4,7 @@ use mathlib.Core.Path.{ap, _∙_}
 use mathlib.Core.List.{[], _∷_}
 use native.Mathlib.Omega.{arith}
 use Rattle.classes.specs.Classes.{Class}
-use Rattle.rules.specs.Graph.{State, graphFrom, stateOf}
+use Rattle.graph_rules.specs.Graph.{State, graphFrom, stateOf}
 use Rattle.choices.specs.Needs.{grownBy}
 use Rattle.choices.proofs.PlanRows.{way-self, way-tests, way-mask}
 use Rattle.choices.proofs.Growing.{by-none}

@@ -5,7 +5,7 @@ use mathlib.Core.Path.{sym, ap, _∙_}
 use mathlib.Core.Bool.{Bool, cond}
 use mathlib.Core.List.{[], _∷_}
 use Rattle.classes.specs.Classes.{Class}
-use Rattle.rules.specs.Graph.{graphFrom, stateOf}
+use Rattle.graph_rules.specs.Graph.{graphFrom, stateOf}
 use Rattle.edges.specs.Edges.{classTo}
 use Rattle.choices.specs.declared.needs.Grown.{Grown}
 use Rattle.choices.specs.Needs.{grownBy}

@@ -9,8 +9,8 @@ use native.Mathlib.Omega.{arith}
 use lib.ListN.{length}
 use Rattle.lists.specs.Lists.{allL}
 use Rattle.classes.specs.Classes.{Class}
-use Rattle.rules.specs.Graph.{Graph, graphFrom, stateOf}
-use Rattle.rules.proofs.Flat.{from-length}
+use Rattle.graph_rules.specs.Graph.{Graph, graphFrom, stateOf}
+use Rattle.graph_rules.proofs.Flat.{from-length}
 use Rattle.edges.specs.Edges.{targets}
 use Rattle.mask_store.specs.declared.MaskStore.{MaskStore}
 use Rattle.mask_store.specs.Masks.{takes, grown}

@@ -7,9 +7,9 @@ use native.Mathlib.Omega.{arith}
 use lib.Dec.{eqb}
 use lib.ListN.{length, getD, take, drop}
 use Rattle.lists.specs.Lists.{eqList}
-use Rattle.rules.specs.Graph.{graphFrom}
-use Rattle.rules.proofs.Flat.{from-length}
-use Rattle.rules.proofs.Taken.{taken-long}
+use Rattle.graph_rules.specs.Graph.{graphFrom}
+use Rattle.graph_rules.proofs.Flat.{from-length}
+use Rattle.graph_rules.proofs.Taken.{taken-long}
 use Rattle.mask_store.specs.Masks.{storeOf, held}
 use Rattle.plan_rules.specs.Plan.{base, planRow, planWords}
 use Rattle.choices.proofs.PlanRows.{row-length}

@@ -1,7 +1,7 @@
 -- `edge_word` meets its contract: the tests tell how the edge is tested, and the search answers the class's number. Assumes nothing.
 use borrow.Author.Needs.{needs}
 use native.Mathlib.Omega.{arith}
-use Rattle.rules.specs.Graph.{graphFrom, stateOf}
+use Rattle.graph_rules.specs.Graph.{graphFrom, stateOf}
 use Rattle.mask_store.specs.Masks.{storeOf, held}
 use Rattle.choices.proofs.PlanRows.{word-self, word-tests, word-mask, found-number, found-few}
 use Rattle.choices.proofs.rows.edge_word.Statement.{statement}

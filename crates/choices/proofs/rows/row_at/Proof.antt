@@ -3,8 +3,8 @@ use borrow.Author.Needs.{needs}
 use native.Mathlib.Omega.{arith}
 use mathlib.Core.List.{List}
 use Rattle.classes.specs.Classes.{Class}
-use Rattle.rules.specs.Graph.{Graph, graphFrom}
-use Rattle.rules.proofs.Flat.{from-length}
+use Rattle.graph_rules.specs.Graph.{Graph, graphFrom}
+use Rattle.graph_rules.proofs.Flat.{from-length}
 use Rattle.mask_store.specs.Masks.{storeOf, held}
 use Rattle.choices.proofs.Forks.{low-below, high-below}
 use Rattle.choices.proofs.PlanRows.{row-table, row-none, row-one, row-two}

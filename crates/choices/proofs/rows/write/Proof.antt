@@ -4,9 +4,9 @@ use Prim.Native.Nat.{_+_, _*_, _-_, _≤_, _<_}
 use native.Mathlib.Omega.{arith}
 use lib.ListN.{length, getD, length-set}
 use Rattle.lists.proofs.Buffers.{Filled, filled-none, filled-length}
-use Rattle.rules.specs.Graph.{graphFrom}
-use Rattle.rules.proofs.Flat.{from-length}
-use Rattle.rules.proofs.Taken.{taken-long, taken-few}
+use Rattle.graph_rules.specs.Graph.{graphFrom}
+use Rattle.graph_rules.proofs.Flat.{from-length}
+use Rattle.graph_rules.proofs.Taken.{taken-long, taken-few}
 use Rattle.mask_store.specs.Masks.{storeOf, held}
 use Rattle.mask_store.proofs.MaskLaws.{length-held}
 use Rattle.plan_rules.specs.Plan.{base, planRow, planWords}

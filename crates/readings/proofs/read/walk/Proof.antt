@@ -8,9 +8,9 @@ use Prim.Native.Nat.{ℕ, suc, _≤_, _<_, _-_, _+_, _*_}
 use native.Mathlib.Omega.{arith}
 use borrow.Author.Needs.{needs}
 use lib.ListN.{length, getD}
-use Rattle.rules.specs.Graph.{graphFrom, graphFits}
-use Rattle.rules.specs.Read.{readGraph}
-use Rattle.rules.proofs.Taken.{taken-long, taken-few, taken-root, taken-target}
+use Rattle.graph_rules.specs.Graph.{graphFrom, graphFits}
+use Rattle.graph_rules.specs.Read.{readGraph}
+use Rattle.graph_rules.proofs.Taken.{taken-long, taken-few, taken-root, taken-target}
 use Rattle.readings.specs.Answers.{recorded}
 use Rattle.readings.proofs.Turn.{rest, rest-start, no-states, loop-stops, loop-below, loop-goes, last-below, last-stops, last-goes}
 use Rattle.readings.proofs.read.walk.Statement.{statement}

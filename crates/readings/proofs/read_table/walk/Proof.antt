@@ -5,9 +5,9 @@ use Prim.Native.Nat.{_≤_, _<_, _-_}
 use native.Mathlib.Omega.{arith}
 use borrow.Author.Needs.{needs}
 use lib.ListN.{length, getD}
-use Rattle.rules.specs.Table.{tableOf}
-use Rattle.rules.specs.Read.{readTable}
-use Rattle.rules.proofs.Shape.{exact}
+use Rattle.graph_rules.specs.Table.{tableOf}
+use Rattle.graph_rules.specs.Read.{readTable}
+use Rattle.graph_rules.proofs.Shape.{exact}
 use Rattle.readings.specs.Answers.{recorded}
 use Rattle.readings.proofs.TableTurn.{rest, starts-none, starts-dead, starts-at, start-below, turn-stops, turn-goes, end-stops, end-goes}
 use Rattle.readings.proofs.read_table.walk.Statement.{statement}

@@ -6,8 +6,8 @@ use Prim.Native.Nat.{ℕ, _≤_, _<_, _-_, _+_, _*_}
 use native.Mathlib.Omega.{arith}
 use borrow.Author.Needs.{needs}
 use lib.ListN.{length, getD}
-use Rattle.rules.specs.Graph.{graphFrom}
-use Rattle.rules.proofs.Taken.{taken-long, taken-few, taken-root}
+use Rattle.graph_rules.specs.Graph.{graphFrom}
+use Rattle.graph_rules.proofs.Taken.{taken-long, taken-few, taken-root}
 use Rattle.readings.specs.Answers.{recorded}
 use Rattle.plan_rules.specs.Plan.{base}
 use Rattle.plan_rules.specs.Run.{runFrom, rowsOf}

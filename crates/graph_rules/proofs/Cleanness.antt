@@ -15,13 +15,13 @@ use Rattle.lists.specs.Lists.{allL, below, those, select}
 use Rattle.lists.proofs.Bools.{Is, is, yes-is, no-is, and-both, and-intro, none-some}
 use Rattle.lists.proofs.Elements.{length-nil, all-at, all-intro, length-tab, getD-tab0, map-at}
 use Rattle.lists.proofs.Selections.{none-passes, passes-none}
-use Rattle.rules.specs.Table.{Table, tableOf, refusal, size, rowOf, step}
-use Rattle.rules.specs.Build.{Error, build, chain, leafOf, reached, present, agreed}
-use Rattle.rules.specs.Read.{Clean}
-use Rattle.rules.specs.Clean.{first, reachedFrom, firstError, errorAt, zeroDead, zeroAt, bytesLeaf, endless, endAt, firstBreach, breach, unbroken, isClean}
-use Rattle.rules.proofs.Agreed.{agreed-at, agreed-all}
-use Rattle.rules.proofs.Shape.{Shaped, legal-shaped, some-state, size-is}
-use Rattle.rules.proofs.Unpruned.{reached-below}
+use Rattle.graph_rules.specs.Table.{Table, tableOf, refusal, size, rowOf, step}
+use Rattle.graph_rules.specs.Build.{Error, build, chain, leafOf, reached, present, agreed}
+use Rattle.graph_rules.specs.Read.{Clean}
+use Rattle.graph_rules.specs.Clean.{first, reachedFrom, firstError, errorAt, zeroDead, zeroAt, bytesLeaf, endless, endAt, firstBreach, breach, unbroken, isClean}
+use Rattle.graph_rules.proofs.Agreed.{agreed-at, agreed-all}
+use Rattle.graph_rules.proofs.Shape.{Shaped, legal-shaped, some-state, size-is}
+use Rattle.graph_rules.proofs.Unpruned.{reached-below}
 
 -- the three places, where no rule is broken
 all-unbroken : (a b c : Option ℕ) → unbroken (firstBreach 1 (a ∷ b ∷ c ∷ [])) ≡ true → (a ≡ none) × (b ≡ none) × (c ≡ none)

@@ -12,11 +12,11 @@ use Rattle.lists.specs.Lists.{below, those, eqOption}
 use Rattle.lists.proofs.Elements.{getD-tab0, length-tab, all-at, map-at, option-sound}
 use Rattle.lists.proofs.Bools.{Is, is, no-is, none-some, lt-or-le, yes-is}
 use Rattle.lists.proofs.Distinct.{those-yes}
-use Rattle.rules.specs.Graph.{State, Graph, blank, stateOf, to, acceptOf, earlyOf, leads}
-use Rattle.rules.specs.Build.{present, children, acceptBy, agreed, withEarly, covered, cleared, withCleared}
-use Rattle.rules.proofs.Agreed.{agreed-at}
-use Rattle.rules.proofs.Views.{edge-leads, edge-within, out-blank}
-use Rattle.rules.proofs.Merge.{rest}
+use Rattle.graph_rules.specs.Graph.{State, Graph, blank, stateOf, to, acceptOf, earlyOf, leads}
+use Rattle.graph_rules.specs.Build.{present, children, acceptBy, agreed, withEarly, covered, cleared, withCleared}
+use Rattle.graph_rules.proofs.Agreed.{agreed-at}
+use Rattle.graph_rules.proofs.Views.{edge-leads, edge-within, out-blank}
+use Rattle.graph_rules.proofs.Merge.{rest}
 
 some-within : (l : List (Option ℕ)) (i x : ℕ) → getD l i none ≡ some x → i < length l
 some-within [] i x e = absurd (none-some e)

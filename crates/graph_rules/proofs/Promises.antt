@@ -9,18 +9,18 @@ use lib.ListN.{length, getD}
 use Rattle.lists.proofs.Distinct.{Apart, apart-differ, apart-nil}
 use Rattle.lists.proofs.Elements.{nil-cons}
 use Rattle.lists.proofs.Numbering.{number-in}
-use Rattle.rules.specs.Table.{Table, tableOf, refusal}
-use Rattle.rules.specs.Graph.{State, Graph, blank, stateOf, to, acceptOf, earlyOf, same, FromRoot, stateWords, stateFrom, graphWords, graphBuffer, graphFrom, graphFits}
-use Rattle.rules.specs.Build.{build, buildFrom, emptyLeaves, unpruned, pruned, merged, reached, leafOf, edge}
-use Rattle.rules.specs.Read.{Bytes, Orderly, Clean, late, onward, walk, startAt, tableWalker, graphWalker, readTable, readGraph}
-use Rattle.rules.proofs.Merge.{merged-apart, merged-path, merged-reads, rest, same-sound}
-use Rattle.rules.proofs.Prune.{pruned-path, pruned-reads, pruned-root}
-use Rattle.rules.proofs.Shape.{Shaped, few-leaves, few-states, legal-shaped}
-use Rattle.rules.proofs.Alike.{walks-alike}
-use Rattle.rules.proofs.Unpruned.{reached-start, un-facts}
-use Rattle.rules.proofs.Reached.{kept-reached, un-root, un-root-within}
-use Rattle.rules.proofs.Fits.{Fits, build-fits}
-use Rattle.rules.proofs.Words.{buffer-length, graph-back, state-back, words-taken}
+use Rattle.graph_rules.specs.Table.{Table, tableOf, refusal}
+use Rattle.graph_rules.specs.Graph.{State, Graph, blank, stateOf, to, acceptOf, earlyOf, same, FromRoot, stateWords, stateFrom, graphWords, graphBuffer, graphFrom, graphFits}
+use Rattle.graph_rules.specs.Build.{build, buildFrom, emptyLeaves, unpruned, pruned, merged, reached, leafOf, edge}
+use Rattle.graph_rules.specs.Read.{Bytes, Orderly, Clean, late, onward, walk, startAt, tableWalker, graphWalker, readTable, readGraph}
+use Rattle.graph_rules.proofs.Merge.{merged-apart, merged-path, merged-reads, rest, same-sound}
+use Rattle.graph_rules.proofs.Prune.{pruned-path, pruned-reads, pruned-root}
+use Rattle.graph_rules.proofs.Shape.{Shaped, few-leaves, few-states, legal-shaped}
+use Rattle.graph_rules.proofs.Alike.{walks-alike}
+use Rattle.graph_rules.proofs.Unpruned.{reached-start, un-facts}
+use Rattle.graph_rules.proofs.Reached.{kept-reached, un-root, un-root-within}
+use Rattle.graph_rules.proofs.Fits.{Fits, build-fits}
+use Rattle.graph_rules.proofs.Words.{buffer-length, graph-back, state-back, words-taken}
 
 -- ---- no equal states
 

@@ -5,11 +5,11 @@ use mathlib.Core.Option.{some, Option·getD}
 use Prim.Native.Nat.{ℕ, _≤_, _<_}
 use native.Mathlib.Omega.{arith}
 use lib.ListN.{getD}
-use Rattle.rules.specs.Table.{tableOf, refusal}
-use Rattle.rules.specs.Graph.{orNone}
-use Rattle.rules.specs.Build.{leafOf}
-use Rattle.rules.proofs.Shape.{few-leaves, legal-leaf}
-use Rattle.rules.proofs.Words.{back-none, getD-le}
+use Rattle.graph_rules.specs.Table.{tableOf, refusal}
+use Rattle.graph_rules.specs.Graph.{orNone}
+use Rattle.graph_rules.specs.Build.{leafOf}
+use Rattle.graph_rules.proofs.Shape.{few-leaves, legal-leaf}
+use Rattle.graph_rules.proofs.Words.{back-none, getD-le}
 
 module _ (w : List ℕ) (legal : refusal w ≡ 0) (s : ℕ) where
   leaf-small : (x : ℕ) → leafOf (tableOf w) s ≡ some x → x < 255

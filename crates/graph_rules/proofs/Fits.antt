@@ -15,15 +15,15 @@ use Rattle.lists.proofs.Bools.{none-some}
 use Rattle.lists.proofs.Distinct.{distinct-from, distinct-length}
 use Rattle.lists.proofs.Numbers.{number-length}
 use Rattle.lists.proofs.Selecting.{select-from, select-le}
-use Rattle.rules.specs.Table.{Table, tableOf, refusal, size, rowOf}
-use Rattle.rules.specs.Graph.{State, Graph, blank, stateOf, to, acceptOf, earlyOf, same}
-use Rattle.rules.specs.Build.{reached, renamed, relabel, restrict, kept, pruned, firstState, wholeGraph, withEarly, withCleared, cleared, unpruned, mergeRound, merged, edge, emptyLeaves, buildFrom, build}
-use Rattle.rules.proofs.Rename.{Named, led, relabel-state, relabel-to}
-use Rattle.rules.proofs.Merge.{merged-keep, names, placed, round-length, round-root, same-sound}
-use Rattle.rules.proofs.Prune.{kept-length, kept-root, restrict-length, restrict-placed, restrict-root}
-use Rattle.rules.proofs.Marks.{early-state, early-to, early-accept, early-length, early-byte, cleared-length, cleared-state, cleared-to, cleared-accept}
-use Rattle.rules.proofs.Shape.{Shaped, legal-leaf, legal-shaped, size-is}
-use Rattle.rules.proofs.Unpruned.{lengths, reached-below, reached-start, whole-length, whole-state}
+use Rattle.graph_rules.specs.Table.{Table, tableOf, refusal, size, rowOf}
+use Rattle.graph_rules.specs.Graph.{State, Graph, blank, stateOf, to, acceptOf, earlyOf, same}
+use Rattle.graph_rules.specs.Build.{reached, renamed, relabel, restrict, kept, pruned, firstState, wholeGraph, withEarly, withCleared, cleared, unpruned, mergeRound, merged, edge, emptyLeaves, buildFrom, build}
+use Rattle.graph_rules.proofs.Rename.{Named, led, relabel-state, relabel-to}
+use Rattle.graph_rules.proofs.Merge.{merged-keep, names, placed, round-length, round-root, same-sound}
+use Rattle.graph_rules.proofs.Prune.{kept-length, kept-root, restrict-length, restrict-placed, restrict-root}
+use Rattle.graph_rules.proofs.Marks.{early-state, early-to, early-accept, early-length, early-byte, cleared-length, cleared-state, cleared-to, cleared-accept}
+use Rattle.graph_rules.proofs.Shape.{Shaped, legal-leaf, legal-shaped, size-is}
+use Rattle.graph_rules.proofs.Unpruned.{lengths, reached-below, reached-start, whole-length, whole-state}
 
 pub record FitsState (m : ℕ) (s : State) : Type 0 where
   pub width : length (s .steps) ≡ 257

@@ -16,8 +16,8 @@ use Rattle.lists.specs.Lists.{allL, below, pieces}
 use Rattle.lists.proofs.Bools.{and-both, and-intro, or-cases, Is, is, no-is, none-some, some-inj, lt-or-le, yes-is}
 use Rattle.lists.proofs.Elements.{getD-tab0, length-tab, all-at, eqb-sound, map-at}
 use Rattle.lists.proofs.Distinct.{those-keep}
-use Rattle.rules.specs.Table.{Row, Table, tableOf, size, rowOf, step, matchOf, matchFits, conditions, firstBroken, refusal, countsFit, emptiesFit, targetsFit, headsFit, recordsFit}
-use Rattle.rules.specs.Build.{chainFrom, chain, contenders, single, leafOf}
+use Rattle.graph_rules.specs.Table.{Row, Table, tableOf, size, rowOf, step, matchOf, matchFits, conditions, firstBroken, refusal, countsFit, emptiesFit, targetsFit, headsFit, recordsFit}
+use Rattle.graph_rules.specs.Build.{chainFrom, chain, contenders, single, leafOf}
 
 pub record Shaped (t : Table) : Type 0 where
   pub start-below : (s : ℕ) → t .start ≡ some s → s < size t

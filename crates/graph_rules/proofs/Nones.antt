@@ -6,7 +6,7 @@ use borrow.Author.Tests.{eqb-true, eq-eqb, ne-eqb}
 use lib.Dec.{eqb}
 use Rattle.lists.specs.Lists.{eqOption}
 use Rattle.lists.proofs.Bools.{Is, is, yes-is, no-is, none-some}
-use Rattle.rules.specs.Graph.{orNone}
+use Rattle.graph_rules.specs.Graph.{orNone}
 
 module _ (none-word x : ℕ) where
   pub or-word : Option·getD (orNone none-word x) none-word ≡ x

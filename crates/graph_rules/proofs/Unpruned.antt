@@ -17,15 +17,15 @@ use Rattle.lists.proofs.Elements.{getD-tab0, length-tab, map-at}
 use Rattle.lists.proofs.Bools.{none-some, some-inj}
 use Rattle.lists.proofs.Numbering.{in-number, number-in}
 use Rattle.lists.proofs.Any.{any-at}
-use Rattle.rules.specs.Table.{Table, size, rowOf, step}
-use Rattle.rules.specs.Graph.{State, Graph, blank, stateOf, to, acceptOf, earlyOf}
-use Rattle.rules.specs.Build.{stepsTo, reached, renamed, restrict, leafOf, edge, firstState, wholeGraph, withEarly, covered, unpruned}
-use Rattle.rules.specs.Read.{Orderly}
-use Rattle.rules.proofs.Rename.{Named, led, new-accept, new-root, new-to, relabel-state}
-use Rattle.rules.proofs.Prune.{restrict-found, restrict-length, restrict-placed}
-use Rattle.rules.proofs.Marks.{cleared-accept, cleared-early, cleared-to, covered-parent, early-accept, early-byte, early-end, early-length, early-to}
-use Rattle.rules.proofs.Shape.{Shaped}
-use Rattle.rules.proofs.Alike.{Facts}
+use Rattle.graph_rules.specs.Table.{Table, size, rowOf, step}
+use Rattle.graph_rules.specs.Graph.{State, Graph, blank, stateOf, to, acceptOf, earlyOf}
+use Rattle.graph_rules.specs.Build.{stepsTo, reached, renamed, restrict, leafOf, edge, firstState, wholeGraph, withEarly, covered, unpruned}
+use Rattle.graph_rules.specs.Read.{Orderly}
+use Rattle.graph_rules.proofs.Rename.{Named, led, new-accept, new-root, new-to, relabel-state}
+use Rattle.graph_rules.proofs.Prune.{restrict-found, restrict-length, restrict-placed}
+use Rattle.graph_rules.proofs.Marks.{cleared-accept, cleared-early, cleared-to, covered-parent, early-accept, early-byte, early-end, early-length, early-to}
+use Rattle.graph_rules.proofs.Shape.{Shaped}
+use Rattle.graph_rules.proofs.Alike.{Facts}
 
 -- ---- edges and steps
 

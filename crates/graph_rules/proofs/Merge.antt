@@ -13,12 +13,12 @@ use Rattle.lists.specs.Lists.{distinct, place, eqOption}
 use Rattle.lists.proofs.Bools.{and-both, and-intro, Is, is, no-is, none-some, lt-or-le, yes-is}
 use Rattle.lists.proofs.Elements.{Sound, list-sound, map-at, option-sound}
 use Rattle.lists.proofs.Distinct.{Apart, distinct-all, distinct-apart, distinct-from, distinct-has, distinct-length, place-apart, place-at, place-some}
-use Rattle.rules.specs.Graph.{State, Graph, blank, stateOf, same, FromRoot}
-use Rattle.rules.specs.Build.{renamed, relabel, mergeRound, mergesNone, mergeFor, merged, oneMore}
-use Rattle.rules.specs.Read.{graphWalker, readGraph}
-use Rattle.rules.proofs.Walks.{Quiet}
-use Rattle.rules.proofs.Views.{edge-within, out-quiet}
-use Rattle.rules.proofs.Rename.{Named, new-root, relabel-path, relabel-reads}
+use Rattle.graph_rules.specs.Graph.{State, Graph, blank, stateOf, same, FromRoot}
+use Rattle.graph_rules.specs.Build.{renamed, relabel, mergeRound, mergesNone, mergeFor, merged, oneMore}
+use Rattle.graph_rules.specs.Read.{graphWalker, readGraph}
+use Rattle.graph_rules.proofs.Walks.{Quiet}
+use Rattle.graph_rules.proofs.Views.{edge-within, out-quiet}
+use Rattle.graph_rules.proofs.Rename.{Named, new-root, relabel-path, relabel-reads}
 
 pub same-sound : Sound same
 unfolding same

@@ -7,8 +7,8 @@ use mathlib.Core.Option.{Option, none, some}
 use Prim.Native.Nat.{ℕ, suc, _≤_, _<_}
 use lib.ListN.{length, getD, drop, drop-of-length-le}
 use lib.Seq.{drop-cons}
-use Rattle.rules.specs.Graph.{Graph, to, acceptOf, earlyOf}
-use Rattle.rules.specs.Read.{Reading, Walker, late, onward, walk, graphWalker}
+use Rattle.graph_rules.specs.Graph.{Graph, to, acceptOf, earlyOf}
+use Rattle.graph_rules.specs.Read.{Reading, Walker, late, onward, walk, graphWalker}
 
 -- nothing is recorded at a state, nor after it
 pub record Quiet (v : Walker) (s : ℕ) : Type 0 where

@@ -7,9 +7,9 @@ use Prim.Native.Nat.{ℕ, _≤_, _<_}
 use lib.ListN.{length, getD, List·getD-eq-default}
 use Rattle.lists.proofs.Any.{option-any, any-option}
 use Rattle.lists.proofs.Bools.{none-some, lt-or-le}
-use Rattle.rules.specs.Graph.{State, Graph, blank, stateOf, to, acceptOf, earlyOf, leads}
-use Rattle.rules.specs.Read.{graphWalker}
-use Rattle.rules.proofs.Walks.{Quiet, graph-quiet}
+use Rattle.graph_rules.specs.Graph.{State, Graph, blank, stateOf, to, acceptOf, earlyOf, leads}
+use Rattle.graph_rules.specs.Read.{graphWalker}
+use Rattle.graph_rules.proofs.Walks.{Quiet, graph-quiet}
 
 -- ---- a number that no state has
 

@@ -7,8 +7,8 @@ use lib.Dec.{eqb, leb}
 use lib.ListN.{length, getD, take, drop}
 use Rattle.lists.specs.Sets.{closure}
 use Rattle.lists.specs.Lists.{allL, below, anyL, those, select, distinct, place, eqOption, numberFrom, sorted}
-use Rattle.rules.specs.Table.{Table, size, rowOf, leafAt, matchOf}
-use Rattle.rules.specs.Graph.{State, Graph, stateOf, acceptOf, leads, same}
+use Rattle.graph_rules.specs.Table.{Table, size, rowOf, leafAt, matchOf}
+use Rattle.graph_rules.specs.Graph.{State, Graph, stateOf, acceptOf, leads, same}
 
 -- ---- the errors, and their words: kind, leaf count, leaves
 

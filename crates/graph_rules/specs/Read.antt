@@ -5,9 +5,9 @@ use mathlib.Core.Option.{Option, none, some}
 use Prim.Native.Nat.{ℕ, zero, suc, _<_}
 use lib.ListN.{getD}
 use Rattle.lists.specs.Sets.{In}
-use Rattle.rules.specs.Table.{Table, step}
-use Rattle.rules.specs.Graph.{Graph, to, acceptOf, earlyOf}
-use Rattle.rules.specs.Build.{build, chain, leafOf, reached, edge}
+use Rattle.graph_rules.specs.Table.{Table, step}
+use Rattle.graph_rules.specs.Graph.{Graph, to, acceptOf, earlyOf}
+use Rattle.graph_rules.specs.Build.{build, chain, leafOf, reached, edge}
 
 -- a text is a list of bytes
 abbrev pub Bytes : List ℕ → Type 0

@@ -15,16 +15,16 @@ use Rattle.lists.proofs.Closure.{in-below, closure-sound, closure-complete}
 use Rattle.lists.proofs.Bools.{or-cases, none-some, some-inj, lt-or-le}
 use Rattle.lists.proofs.Numbering.{in-number, number-in}
 use Rattle.lists.proofs.Any.{any-found}
-use Rattle.rules.specs.Table.{Table, size, rowOf, step}
-use Rattle.rules.specs.Graph.{Graph, stateOf, to, acceptOf, earlyOf, leads, FromRoot, at-root, on-edge}
-use Rattle.rules.specs.Build.{stepsTo, reached, contenders, leafOf, edge, restrict, wholeGraph, withEarly, withCleared, unpruned, kept, marked, present}
-use Rattle.rules.specs.Read.{Orderly}
-use Rattle.rules.proofs.Rename.{Named, led}
-use Rattle.rules.proofs.Prune.{kept-length, restrict-onto, restrict-root}
-use Rattle.rules.proofs.Marks.{cleared-length, early-length}
-use Rattle.rules.proofs.Shape.{Shaped}
-use Rattle.rules.proofs.Unpruned.{first-root, lengths, reached-below, reached-start, un-accept, un-byte, un-leads, un-to}
-use Rattle.rules.proofs.Views.{leads-edge}
+use Rattle.graph_rules.specs.Table.{Table, size, rowOf, step}
+use Rattle.graph_rules.specs.Graph.{Graph, stateOf, to, acceptOf, earlyOf, leads, FromRoot, at-root, on-edge}
+use Rattle.graph_rules.specs.Build.{stepsTo, reached, contenders, leafOf, edge, restrict, wholeGraph, withEarly, withCleared, unpruned, kept, marked, present}
+use Rattle.graph_rules.specs.Read.{Orderly}
+use Rattle.graph_rules.proofs.Rename.{Named, led}
+use Rattle.graph_rules.proofs.Prune.{kept-length, restrict-onto, restrict-root}
+use Rattle.graph_rules.proofs.Marks.{cleared-length, early-length}
+use Rattle.graph_rules.proofs.Shape.{Shaped}
+use Rattle.graph_rules.proofs.Unpruned.{first-root, lengths, reached-below, reached-start, un-accept, un-byte, un-leads, un-to}
+use Rattle.graph_rules.proofs.Views.{leads-edge}
 
 present-none : (o : Option ℕ) → present o ≡ true → o ≡ none → ⊥
 present-none none h e = false≢true h

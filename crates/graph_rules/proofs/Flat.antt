@@ -10,10 +10,10 @@ use lib.Seq.{length-take-le, getD-take, getD-drop, getD-append-add, getD-at}
 use Rattle.lists.specs.Lists.{pieces}
 use Rattle.lists.proofs.Elements.{map-at}
 use Rattle.lists.proofs.Pieces.{pieces-length, pieces-width, pieces-at, piece-word}
-use Rattle.rules.specs.Table.{Leaf, Row, Match, tableOf, rowOf, step, leafAt, matchOf}
-use Rattle.rules.specs.Graph.{State, Graph, blank, stateOf, to, acceptOf, earlyOf, stateWords, graphWords, orNone, stateFrom, graphFrom}
-use Rattle.rules.proofs.Fits.{Fits}
-use Rattle.rules.proofs.Words.{state-length}
+use Rattle.graph_rules.specs.Table.{Leaf, Row, Match, tableOf, rowOf, step, leafAt, matchOf}
+use Rattle.graph_rules.specs.Graph.{State, Graph, blank, stateOf, to, acceptOf, earlyOf, stateWords, graphWords, orNone, stateFrom, graphFrom}
+use Rattle.graph_rules.proofs.Fits.{Fits}
+use Rattle.graph_rules.proofs.Words.{state-length}
 
 -- ---- a table
 

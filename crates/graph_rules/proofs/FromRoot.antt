@@ -7,8 +7,8 @@ use lib.Dec.{eqb}
 use lib.ListN.{length}
 use Rattle.lists.specs.Sets.{In, Reach, from-seed, by-edge}
 use Rattle.lists.proofs.Closure.{closure-sound, closure-seed, closure-closed}
-use Rattle.rules.specs.Graph.{Graph, stateOf, leads, FromRoot, at-root, on-edge, reachedStates}
-use Rattle.rules.proofs.Views.{edge-within, edge-leads, leads-edge}
+use Rattle.graph_rules.specs.Graph.{Graph, stateOf, leads, FromRoot, at-root, on-edge, reachedStates}
+use Rattle.graph_rules.proofs.Views.{edge-within, edge-leads, leads-edge}
 
 module _ (g : Graph) where
   reach-from-root : (i : ℕ) → Reach (λ k u. leads (stateOf g k) u) (length (g .states)) (eqb (g .root)) i → FromRoot g i

@@ -7,8 +7,8 @@ use Prim.Native.Nat.{ℕ, suc}
 use lib.Dec.{eqb, leb}
 use lib.ListN.{length, getD, take}
 use Rattle.lists.specs.Lists.{allL, below, those, select}
-use Rattle.rules.specs.Table.{Table, size, rowOf, step}
-use Rattle.rules.specs.Build.{Error, noUniversalStart, emptyMatch, disambiguation, build, reached, chain, contenders, leafOf, present, agreed}
+use Rattle.graph_rules.specs.Table.{Table, size, rowOf, step}
+use Rattle.graph_rules.specs.Build.{Error, noUniversalStart, emptyMatch, disambiguation, build, reached, chain, contenders, leafOf, present, agreed}
 
 -- the first of a list
 abbrev pub first : List ℕ → Option ℕ

@@ -13,8 +13,8 @@ use Rattle.lists.specs.Lists.{allL, pieces}
 use Rattle.lists.proofs.Bools.{and-both, or-cases, is}
 use Rattle.lists.proofs.Elements.{all-at}
 use Rattle.lists.proofs.Pieces.{pieces-length, piece-word}
-use Rattle.rules.specs.Graph.{graphFits}
-use Rattle.rules.proofs.Flat.{piece-length}
+use Rattle.graph_rules.specs.Graph.{graphFits}
+use Rattle.graph_rules.proofs.Flat.{piece-length}
 
 module _ (w : List ℕ) (taken : graphFits w ≡ true) where
   abbrev n : ℕ

@@ -15,12 +15,12 @@ use Rattle.lists.specs.Lists.{select, numberFrom}
 use Rattle.lists.proofs.Closure.{closure-length, closure-seed, closure-closed}
 use Rattle.lists.proofs.Bools.{or-left, or-right, none-some, lt-or-le}
 use Rattle.lists.proofs.Numbering.{in-number, number-found, number-in, number-onto}
-use Rattle.rules.specs.Graph.{Graph, blank, stateOf, to, acceptOf, earlyOf, leads, FromRoot}
-use Rattle.rules.specs.Build.{renamed, relabel, restrict, kept, pruned, marked, present}
-use Rattle.rules.specs.Read.{graphWalker, readGraph}
-use Rattle.rules.proofs.Walks.{Quiet, graph-quiet}
-use Rattle.rules.proofs.Views.{edge-leads, edge-within, out-accept, out-early}
-use Rattle.rules.proofs.Rename.{Named, new-root, relabel-path, relabel-reads}
+use Rattle.graph_rules.specs.Graph.{Graph, blank, stateOf, to, acceptOf, earlyOf, leads, FromRoot}
+use Rattle.graph_rules.specs.Build.{renamed, relabel, restrict, kept, pruned, marked, present}
+use Rattle.graph_rules.specs.Read.{graphWalker, readGraph}
+use Rattle.graph_rules.proofs.Walks.{Quiet, graph-quiet}
+use Rattle.graph_rules.proofs.Views.{edge-leads, edge-within, out-accept, out-early}
+use Rattle.graph_rules.proofs.Rename.{Named, new-root, relabel-path, relabel-reads}
 
 -- ---- a graph restricted
 

@@ -12,9 +12,9 @@ use lib.ListN.{length, getD, take, replicate, length-map, length-append, length-
 use lib.Seq.{take-at, drop-at, getD-at}
 use Rattle.lists.specs.Lists.{allL, pieces}
 use Rattle.lists.proofs.Bools.{and-intro, or-left, or-right}
-use Rattle.rules.specs.Graph.{State, Graph, blank, stateOf, to, stateWords, graphWords, graphBuffer, orNone, stateFrom, graphFrom, graphFits}
-use Rattle.rules.proofs.Merge.{rest}
-use Rattle.rules.proofs.Fits.{Fits}
+use Rattle.graph_rules.specs.Graph.{State, Graph, blank, stateOf, to, stateWords, graphWords, graphBuffer, orNone, stateFrom, graphFrom, graphFits}
+use Rattle.graph_rules.proofs.Merge.{rest}
+use Rattle.graph_rules.proofs.Fits.{Fits}
 
 -- ---- a word, and none
 

@@ -10,7 +10,7 @@ use lib.ListN.{length, getD}
 use Rattle.lists.specs.Lists.{allL, eqOption}
 use Rattle.lists.proofs.Bools.{Is, is, yes-is, no-is, none-some}
 use Rattle.lists.proofs.Elements.{all-intro, all-at, option-sound}
-use Rattle.rules.specs.Build.{agreed}
+use Rattle.graph_rules.specs.Build.{agreed}
 
 -- all have the leaf agreed on
 pub agreed-at : (l : List (Option ℕ)) (x : ℕ) → agreed l ≡ some x → (i : ℕ) → i < length l → getD l i none ≡ some x

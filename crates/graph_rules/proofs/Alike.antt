@@ -10,10 +10,10 @@ use mathlib.Core.Logic.{_⊎_, ⊎-elim}
 use Prim.Native.Nat.{ℕ, suc, _<_}
 use native.Mathlib.Omega.{arith}
 use Rattle.lists.proofs.Bools.{none-some, some-inj}
-use Rattle.rules.specs.Table.{Table, step}
-use Rattle.rules.specs.Graph.{Graph, to, acceptOf, earlyOf}
-use Rattle.rules.specs.Build.{leafOf, edge}
-use Rattle.rules.specs.Read.{Reading, Walker, Bytes, late, mark, onward, walk, tableWalker, graphWalker}
+use Rattle.graph_rules.specs.Table.{Table, step}
+use Rattle.graph_rules.specs.Graph.{Graph, to, acceptOf, earlyOf}
+use Rattle.graph_rules.specs.Build.{leafOf, edge}
+use Rattle.graph_rules.specs.Read.{Reading, Walker, Bytes, late, mark, onward, walk, tableWalker, graphWalker}
 
 pub record Facts (t : Table) (g : Graph) (R : ℕ → ℕ → Type 0) : Type 0 where
   pub ends : (s i c : ℕ) → R s i → c < 257 → edge (step t s c) ≡ none → to g i c ≡ none

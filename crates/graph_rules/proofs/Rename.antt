@@ -4,10 +4,10 @@ use mathlib.Core.List.{List, [], _∷_}
 use mathlib.Core.Option.{Option, none, some, Option·getD}
 use Prim.Native.Nat.{ℕ, zero, suc}
 use lib.ListN.{getD, List·getD-map}
-use Rattle.rules.specs.Graph.{State, Graph, blank, stateOf, to, acceptOf, earlyOf, FromRoot, at-root, on-edge}
-use Rattle.rules.specs.Build.{renamed, relabel}
-use Rattle.rules.specs.Read.{walk, graphWalker, readGraph}
-use Rattle.rules.proofs.Walks.{ends, Led, Quiet, drops, follows-walk, goes, graph-follows}
+use Rattle.graph_rules.specs.Graph.{State, Graph, blank, stateOf, to, acceptOf, earlyOf, FromRoot, at-root, on-edge}
+use Rattle.graph_rules.specs.Build.{renamed, relabel}
+use Rattle.graph_rules.specs.Read.{walk, graphWalker, readGraph}
+use Rattle.graph_rules.proofs.Walks.{ends, Led, Quiet, drops, follows-walk, goes, graph-follows}
 
 -- where an edge leads after the names
 abbrev pub led : List (Option ℕ) → Option ℕ → Option ℕ
