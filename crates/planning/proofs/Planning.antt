@@ -17,8 +17,8 @@ use Rattle.mask_store.proofs.Growth.{grown-size, held-grown}
 use Rattle.plan_rules.specs.Plan.{base, needs, planWords, planOf, planSize}
 use Rattle.plan_rules.proofs.OwnStore.{needs-whole}
 use Rattle.plan_rules.proofs.RunIsWalk.{takes-few}
-use Rattle.choices.specs.declared.needs.Grown.{Grown}
-use Rattle.choices.specs.Needs.{grownBy}
+use Rattle.plan_rows.specs.declared.needs.Grown.{Grown}
+use Rattle.plan_rows.specs.Needs.{grownBy}
 use Rattle.planning.specs.declared.plan.PlanAnswer.the-variants.{Planned}
 use Rattle.planning.specs.Plan.{PlanCall, noPlan, planCall}
 

@@ -17,7 +17,7 @@ pub(crate) fn refusal(graph: &[u16], plan: &[u16], store: MaskStore) -> u8
     if plan.len() < 3 * states {
         return 14;
     }
-    let grown = choices::needs::grow(graph, store);
+    let grown = plan_rows::needs::grow(graph, store);
     if !grown.taken {
         return 15;
     }
@@ -28,7 +28,7 @@ pub(crate) fn refusal(graph: &[u16], plan: &[u16], store: MaskStore) -> u8
         return 14;
     }
     let tables = store.tables;
-    if choices::rows::agrees(graph, plan, &tables, count) {
+    if plan_rows::rows::agrees(graph, plan, &tables, count) {
         0
     } else {
         14

@@ -19,9 +19,9 @@ use Rattle.graph_rules.specs.Graph.{State, Graph, stateOf, graphFrom}
 use Rattle.graph_rules.proofs.Flat.{from-length}
 use Rattle.edges.specs.Edges.{classTo, leadsTo, targets}
 use Rattle.plan_rules.specs.Plan.{base, byTable}
-use Rattle.choices.specs.Fork.{forkIn, forkOf}
-use Rattle.choices.proofs.Forks.{target-below as edge-below}
-use Rattle.choices.specs.declared.fork.Fork.{Fork}
+use Rattle.plan_rows.specs.Fork.{forkIn, forkOf}
+use Rattle.plan_rows.proofs.Forks.{target-below as edge-below}
+use Rattle.plan_rows.specs.declared.fork.Fork.{Fork}
 use Rattle.runner.specs.Prepared.{testsAt, targetsOf, edgeClass, Prepared}
 use Rattle.runner.proofs.Packed.{Edge}
 

@@ -76,7 +76,7 @@ pub fn prepare(graph: &[u16], ends: &mut [u16], tests: &mut [u8])
 {
     let n = graph[0] as usize;
     for s in 0..n {
-        let fork = choices::fork::fork_at(graph, s);
+        let fork = plan_rows::fork::fork_at(graph, s);
         let at = 2 * s;
         ends[at] = fork.low as u16;
         ends[at + 1] = fork.high as u16;
