@@ -4,7 +4,7 @@ use mathlib.Core.List.{List, [], _∷_, _++_, flatMap}
 use Prim.Native.Nat.{ℕ, _+_, _*_, _%_}
 use lib.Dec.{eqb, ltb}
 use lib.ListN.{length, getD, drop}
-use Rattle.lists.specs.Told.{Told, telling, refusing}
+use Rattle.lists.specs.Report.{Report, reporting, refusing}
 use Rattle.graph_rules.specs.Table.{tableOf, refusal}
 use Rattle.graph_rules.specs.Graph.{graphBuffer}
 use Rattle.graph_rules.specs.Build.{Built, errorWords, build}
@@ -13,9 +13,9 @@ use Rattle.graph.specs.declared.new.Answer.{Answer}
 use Rattle.graph.specs.declared.new.Answer.the-variants.{Built as Made, Refused}
 
 -- in document 01's numbers: states, root, errors, error words
-abbrev pub builtTold : Answer → Told
-builtTold (Made c) = telling (c .states ∷ c .root ∷ c .errors ∷ c .words ∷ [])
-builtTold (Refused n) = refusing n 4
+abbrev pub builtReport : Answer → Report
+builtReport (Made c) = reporting (c .states ∷ c .root ∷ c .errors ∷ c .words ∷ [])
+builtReport (Refused n) = refusing n 4
 
 -- an answer, and the two buffers after it
 pub record Outcome : Type 0 where

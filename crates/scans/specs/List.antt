@@ -3,7 +3,7 @@ use mathlib.Core.Bool.{true, false, cond}
 use mathlib.Core.List.{List, [], _∷_, _++_, flatMap}
 use Prim.Native.Nat.{ℕ, zero, suc, _/_, _<_}
 use lib.ListN.{length, drop}
-use Rattle.lists.specs.Told.{Told, telling, refusing}
+use Rattle.lists.specs.Report.{Report, reporting, refusing}
 use Rattle.graph_rules.specs.Graph.{Graph, graphFrom, graphFits}
 use Rattle.scans.specs.declared.scan.Scan.{Scan}
 use Rattle.scans.specs.declared.scan.Answer.{Answer}
@@ -69,9 +69,9 @@ pub record ScanList : Type 0 where
   pub buffer : List ℕ
 
 -- in document 01's numbers: the number of entries
-abbrev pub listTold : ListAnswer → Told
-listTold (Entries n) = telling (n ∷ [])
-listTold (NoList n) = refusing n 1
+abbrev pub listReport : ListAnswer → Report
+listReport (Entries n) = reporting (n ∷ [])
+listReport (NoList n) = refusing n 1
 
 abbrev pub noList : ℕ → Scan → List ℕ → ScanList
 noList n scan buffer = record { listed = record { answer = NoList n; scan = scan }; buffer = buffer }

@@ -5,7 +5,7 @@ use mathlib.Core.Option.{none, some}
 use Prim.Native.Nat.{ℕ, _+_}
 use lib.Dec.{eqb, ltb}
 use lib.ListN.{length, drop}
-use Rattle.lists.specs.Told.{Told, telling, refusing}
+use Rattle.lists.specs.Report.{Report, reporting, refusing}
 use Rattle.graph_rules.specs.Graph.{Graph, graphFrom, graphFits}
 use Rattle.graph_rules.specs.Read.{Reading, readGraph}
 use Rattle.scans.specs.declared.scan.Place.{Place}
@@ -28,11 +28,11 @@ abbrev pub fresh : Scan
 fresh = readingAt 0
 
 -- an answer in document 01's numbers: 1 for a token, 2 for a gap, 0 for ended; leaf, start, end
-abbrev pub scanTold : Answer → Told
-scanTold (Token leaf start end) = telling (1 ∷ leaf ∷ start ∷ end ∷ [])
-scanTold (Gap start end) = telling (2 ∷ 0 ∷ start ∷ end ∷ [])
-scanTold Ended = telling (0 ∷ 0 ∷ 0 ∷ 0 ∷ [])
-scanTold (Refused n) = refusing n 4
+abbrev pub scanReport : Answer → Report
+scanReport (Token leaf start end) = reporting (1 ∷ leaf ∷ start ∷ end ∷ [])
+scanReport (Gap start end) = reporting (2 ∷ 0 ∷ start ∷ end ∷ [])
+scanReport Ended = reporting (0 ∷ 0 ∷ 0 ∷ 0 ∷ [])
+scanReport (Refused n) = refusing n 4
 
 -- "a gap of one byte": the length of the gap in a text at an offset below its length
 unfoldable pub gapLength : List ℕ → ℕ → ℕ

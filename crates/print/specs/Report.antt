@@ -2,7 +2,7 @@
 use mathlib.Core.List.{List}
 use Prim.Native.Nat.{ℕ, zero, suc}
 use Rattle.graph_rules.specs.Build.{Built}
-use Rattle.display.specs.Told.{noRoom}
+use Rattle.display.specs.Report.{noRoom}
 use Rattle.print.specs.Print.{printedBuild, refusedLine, printed}
 
 -- the text of a build that is not refused, or the line of its refusal's number

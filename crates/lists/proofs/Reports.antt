@@ -3,7 +3,7 @@ use mathlib.Core.Path.{_≡_, refl, sym, ap}
 use mathlib.Core.List.{List, [], _∷_}
 use Prim.Native.Nat.{ℕ, zero, suc}
 use lib.ListN.{length}
-use Rattle.lists.specs.Told.{refusing, lowest, answering}
+use Rattle.lists.specs.Report.{refusing, lowest, answering}
 
 pub lowest-one : (n : ℕ) → lowest (n ∷ []) ≡ n
 lowest-one zero = refl

@@ -4,7 +4,7 @@ use mathlib.Core.List.{List, [], _∷_}
 use Prim.Native.Nat.{ℕ}
 use lib.Dec.{eqb}
 use lib.ListN.{length, drop}
-use Rattle.lists.specs.Told.{on, lowest}
+use Rattle.lists.specs.Report.{on, lowest}
 use Rattle.graph_rules.specs.Graph.{Graph, graphFits}
 use Rattle.graph_rules.specs.Read.{readGraph}
 use Rattle.scans.specs.declared.scan.Place.{Place}

@@ -7,8 +7,8 @@ use mathlib.Core.Option.{none, some}
 use Prim.Native.Nat.{ℕ, _+_, _/_}
 use lib.Dec.{eqb, ltb}
 use lib.ListN.{length, drop}
-use Rattle.lists.specs.Told.{Told, telling, on, lowest, answering}
-use Rattle.lists.proofs.Tellings.{refusing-as}
+use Rattle.lists.specs.Report.{Report, reporting, on, lowest, answering}
+use Rattle.lists.proofs.Reports.{refusing-as}
 use Rattle.graph_rules.specs.Graph.{Graph, graphFrom, graphFits}
 use Rattle.graph_rules.specs.Read.{Reading, readGraph}
 use Rattle.scans.specs.declared.scan.Place.{Place}
@@ -17,39 +17,39 @@ use Rattle.scans.specs.declared.scan.Scan.{Scan}
 use Rattle.scans.specs.declared.scan.Answer.the-variants.{Token, Gap, Ended, Refused}
 use Rattle.scans.specs.declared.scan.Entry.{Entry}
 use Rattle.scans.specs.declared.scan.Scanned.{Scanned}
-use Rattle.scans.specs.Scan.{readingAt, hasEnded, scanTold, gapAt, entryOf, scannedBy, scanFrom, past, over, scanAt, scanOf, next}
-use Rattle.scans.specs.List.{Listing, ScanList, listTold, listFor, noList, unlessRefused, scanList}
-use Rattle.scans.specs.Told.{scanRefusal, entryValues, scanValues}
+use Rattle.scans.specs.Scan.{readingAt, hasEnded, scanReport, gapAt, entryOf, scannedBy, scanFrom, past, over, scanAt, scanOf, next}
+use Rattle.scans.specs.List.{Listing, ScanList, listReport, listFor, noList, unlessRefused, scanList}
+use Rattle.scans.specs.Report.{scanRefusal, entryValues, scanValues}
 
 -- ---- one call
 
-abbrev tells : Scanned → Told
-tells s = scanTold (s .answer)
+abbrev tells : Scanned → Report
+tells s = scanReport (s .answer)
 
-entry-told : (text : List ℕ) (offset : ℕ) (r : Reading) → scanTold (scannedBy offset (entryOf text offset r) .answer) ≡ telling (entryValues offset (entryOf text offset r))
-entry-told text offset none = refl
-entry-told text offset (some f) = go (eqb (f .end) 0)
+entry-report : (text : List ℕ) (offset : ℕ) (r : Reading) → scanReport (scannedBy offset (entryOf text offset r) .answer) ≡ reporting (entryValues offset (entryOf text offset r))
+entry-report text offset none = refl
+entry-report text offset (some f) = go (eqb (f .end) 0)
   where
     e : Bool → Entry
     e empty = cond empty (gapAt text offset) (record { token = true; leaf = f .leaf; end = offset + f .end })
 
-    go : (empty : Bool) → scanTold (scannedBy offset (e empty) .answer) ≡ telling (entryValues offset (e empty))
+    go : (empty : Bool) → scanReport (scannedBy offset (e empty) .answer) ≡ reporting (entryValues offset (e empty))
     go true = refl
     go false = refl
 
 module _ (g : Graph) (text : List ℕ) where
-  from-told : (offset : ℕ) → scanTold (scanFrom g text offset .answer) ≡ telling (scanValues g text (ReadingAt offset))
+  from-report : (offset : ℕ) → scanReport (scanFrom g text offset .answer) ≡ reporting (scanValues g text (ReadingAt offset))
   unfolding scanValues
-  from-told offset = go (eqb offset (length text))
+  from-report offset = go (eqb offset (length text))
     where
       e : Entry
       e = entryOf text offset (readGraph g (drop offset text))
 
       go : (end : Bool)
           → tells (elim end [ true ↦ record { answer = Ended; scan = hasEnded } | false ↦ scannedBy offset e ])
-          ≡ telling (cond end (0 ∷ 0 ∷ 0 ∷ 0 ∷ []) (entryValues offset e))
+          ≡ reporting (cond end (0 ∷ 0 ∷ 0 ∷ 0 ∷ []) (entryValues offset e))
       go true = refl
-      go false = entry-told text offset (readGraph g (drop offset text))
+      go false = entry-report text offset (readGraph g (drop offset text))
 
   four-values : (place : Place) → length (scanValues g text place) ≡ 4
   unfolding scanValues
@@ -61,20 +61,20 @@ module _ (g : Graph) (text : List ℕ) where
   four-values HasEnded = refl
 
   -- of graph words that 12 takes
-  place-told : (place : Place) → scanTold (scanAt g text place .answer) ≡ answering (lowest (on (past text place) 14 ∷ on (over place) 16 ∷ [])) (scanValues g text place)
-  place-told (ReadingAt offset) = go (ltb (length text) offset)
+  place-report : (place : Place) → scanReport (scanAt g text place .answer) ≡ answering (lowest (on (past text place) 14 ∷ on (over place) 16 ∷ [])) (scanValues g text place)
+  place-report (ReadingAt offset) = go (ltb (length text) offset)
     where
       go : (far : Bool)
           → tells (elim far [ true ↦ record { answer = Refused 14; scan = readingAt offset } | false ↦ scanFrom g text offset ])
           ≡ answering (lowest (on far 14 ∷ 0 ∷ [])) (scanValues g text (ReadingAt offset))
       go true = refusing-as 13 4 (scanValues g text (ReadingAt offset)) (four-values (ReadingAt offset))
-      go false = from-told offset
-  place-told HasEnded = refusing-as 15 4 (scanValues g text HasEnded) (four-values HasEnded)
+      go false = from-report offset
+  place-report HasEnded = refusing-as 15 4 (scanValues g text HasEnded) (four-values HasEnded)
 
-pub next-told : (graph text : List ℕ) (scan : Scan)
-    → scanTold (next graph text scan .answer) ≡ answering (scanRefusal graph text scan) (scanValues (graphFrom graph) text (scan .place))
+pub next-report : (graph text : List ℕ) (scan : Scan)
+    → scanReport (next graph text scan .answer) ≡ answering (scanRefusal graph text scan) (scanValues (graphFrom graph) text (scan .place))
 unfolding next scanRefusal
-next-told graph text scan = go (graphFits graph)
+next-report graph text scan = go (graphFits graph)
   where
     g : Graph
     g = graphFrom graph
@@ -82,25 +82,25 @@ next-told graph text scan = go (graphFits graph)
     go : (fits : Bool)
         → tells (elim fits [ true ↦ scanOf g text scan | false ↦ record { answer = Refused 12; scan = scan } ])
         ≡ answering (lowest (on (not fits) 12 ∷ on (past text (scan .place)) 14 ∷ on (over (scan .place)) 16 ∷ [])) (scanValues g text (scan .place))
-    go true = place-told g text (scan .place)
+    go true = place-report g text (scan .place)
     go false = refusing-as 11 4 (scanValues g text (scan .place)) (four-values g text (scan .place))
 
 -- ---- a list of its answers: refused as its first call is
 
 module _ (g : Graph) (text : List ℕ) (scan : Scan) (buffer : List ℕ) (l : Listing) where
-  abbrev listedAfter : Scanned → Told
-  listedAfter s = listTold (unlessRefused (s .answer) scan buffer l .listed .answer)
+  abbrev listedAfter : Scanned → Report
+  listedAfter s = listReport (unlessRefused (s .answer) scan buffer l .listed .answer)
 
-  from-listed : (offset : ℕ) → listedAfter (scanFrom g text offset) ≡ telling (length (l .entries) ∷ [])
+  from-listed : (offset : ℕ) → listedAfter (scanFrom g text offset) ≡ reporting (length (l .entries) ∷ [])
   from-listed offset = go (eqb offset (length text)) (entryOf text offset (readGraph g (drop offset text)))
     where
-      by-token : (token : Bool) (leaf end : ℕ) → listTold (unlessRefused (cond token (Token leaf offset end) (Gap offset end)) scan buffer l .listed .answer) ≡ telling (length (l .entries) ∷ [])
+      by-token : (token : Bool) (leaf end : ℕ) → listReport (unlessRefused (cond token (Token leaf offset end) (Gap offset end)) scan buffer l .listed .answer) ≡ reporting (length (l .entries) ∷ [])
       by-token true leaf end = refl
       by-token false leaf end = refl
 
       go : (end : Bool) (e : Entry)
           → listedAfter (elim end [ true ↦ record { answer = Ended; scan = hasEnded } | false ↦ scannedBy offset e ])
-          ≡ telling (length (l .entries) ∷ [])
+          ≡ reporting (length (l .entries) ∷ [])
       go true e = refl
       go false e = by-token (e .token) (e .leaf) (e .end)
 
@@ -114,14 +114,14 @@ module _ (g : Graph) (text : List ℕ) (scan : Scan) (buffer : List ℕ) (l : Li
       go false = from-listed offset
   place-listed HasEnded = refl
 
-abbrev pub listTells : ScanList → Told
-listTells s = listTold (s .listed .answer)
+abbrev pub listTells : ScanList → Report
+listTells s = listReport (s .listed .answer)
 
-pub scan-list-told : (graph text : List ℕ) (scan : Scan) (buffer : List ℕ)
-    → listTold (scanList graph text scan buffer .listed .answer)
+pub scan-list-report : (graph text : List ℕ) (scan : Scan) (buffer : List ℕ)
+    → listReport (scanList graph text scan buffer .listed .answer)
     ≡ answering (scanRefusal graph text scan) (length (listFor (graphFrom graph) text (length buffer / 3) scan .entries) ∷ [])
 unfolding scanList scanRefusal
-scan-list-told graph text scan buffer = go (graphFits graph)
+scan-list-report graph text scan buffer = go (graphFits graph)
   where
     g : Graph
     g = graphFrom graph

@@ -6,27 +6,27 @@ use Prim.Native.Nat.{ℕ, _*_, _-_}
 use native.Mathlib.Omega.{arith}
 use lib.Dec.{ltb}
 use lib.ListN.{length, drop, length-drop}
-use Rattle.lists.specs.Told.{Told, on, lowest, answering}
+use Rattle.lists.specs.Report.{Report, on, lowest, answering}
 use Rattle.graph_rules.specs.Graph.{Graph, graphFrom, graphFits}
 use Rattle.classes.specs.Classes.{Class}
 use Rattle.mask_store.specs.declared.MaskStore.{MaskStore}
 use Rattle.mask_store.specs.Masks.{heldWith, grown, takes}
 use Rattle.plan_rules.specs.Plan.{base, needs, planOf, planSize}
 use Rattle.planning.specs.declared.plan.PlanAnswer.the-variants.{Planned}
-use Rattle.planning.specs.Plan.{PlanCall, planTold, noPlan, planCall}
-use Rattle.planning.specs.Told.{planningRefusal, gained}
+use Rattle.planning.specs.Plan.{PlanCall, planReport, noPlan, planCall}
+use Rattle.planning.specs.Report.{planningRefusal, gained}
 
-abbrev tells : PlanCall → Told
-tells c = planTold (c .planning .answer)
+abbrev tells : PlanCall → Report
+tells c = planReport (c .planning .answer)
 
 -- "three words a state"
 pub three-a-state : (g : Graph) → planSize base g ≡ 3 * length (g .states)
 three-a-state g = omega arith
 
-pub plan-told : (graph buffer : List ℕ) (store : MaskStore)
-    → planTold (planCall base graph buffer store .planning .answer) ≡ answering (planningRefusal graph buffer store) (length (gained graph store) ∷ [])
+pub plan-report : (graph buffer : List ℕ) (store : MaskStore)
+    → planReport (planCall base graph buffer store .planning .answer) ≡ answering (planningRefusal graph buffer store) (length (gained graph store) ∷ [])
 unfolding planCall planningRefusal gained grown
-plan-told graph buffer store =
+plan-report graph buffer store =
     go (graphFits graph) (ltb (length buffer) (planSize base g)) (takes store (needs base g))
     ∙ ap (λ (n : ℕ). answering (lowest (on (not (graphFits graph)) 12 ∷ on (ltb (length buffer) n) 14 ∷ on (not (takes store (needs base g))) 15 ∷ [])) (length (drop (store .count) all) ∷ []))
     (three-a-state g)
@@ -50,4 +50,4 @@ plan-told graph buffer store =
     go false short room = refl
     go true true room = refl
     go true false false = refl
-    go true false true = ap (λ (n : ℕ). planTold (Planned n)) (sym (length-drop (store .count) all))
+    go true false true = ap (λ (n : ℕ). planReport (Planned n)) (sym (length-drop (store .count) all))

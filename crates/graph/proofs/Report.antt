@@ -8,23 +8,23 @@ use native.Mathlib.Omega.{arith}
 use borrow.Author.Tests.{ne-eqb}
 use lib.Dec.{eqb, ltb}
 use lib.ListN.{length, getD}
-use Rattle.lists.specs.Told.{on, lowest, answering}
-use Rattle.lists.proofs.Tellings.{lowest-one}
+use Rattle.lists.specs.Report.{on, lowest, answering}
+use Rattle.lists.proofs.Reports.{lowest-one}
 use Rattle.graph_rules.specs.Table.{tableOf, refusal}
 use Rattle.graph_rules.specs.Build.{Built, build}
 use Rattle.graph.specs.declared.new.Answer.{Answer}
 use Rattle.graph.specs.declared.new.Answer.the-variants.{Built as Made, Refused}
-use Rattle.graph.specs.New.{builtTold, Outcome, refusedBy, countsOf, conflicts, wrote, wroteOr9, writtenOr, newOf, wordsOf, imageOf}
-use Rattle.graph.specs.Told.{newRefusal, imageRefusal, buildValues}
+use Rattle.graph.specs.New.{builtReport, Outcome, refusedBy, countsOf, conflicts, wrote, wroteOr9, writtenOr, newOf, wordsOf, imageOf}
+use Rattle.graph.specs.Report.{newRefusal, imageRefusal, buildValues}
 
 -- the answer by the refusal's number, 0 for none
 abbrev pub answerBy : ℕ → Built → Answer
 answerBy zero b = Made (countsOf b)
 answerBy (suc n) b = Refused (suc n)
 
-answer-told : (n : ℕ) (b : Built) → builtTold (answerBy n b) ≡ answering n (buildValues b)
-answer-told zero b = refl
-answer-told (suc n) b = refl
+answer-report : (n : ℕ) (b : Built) → builtReport (answerBy n b) ≡ answering n (buildValues b)
+answer-report zero b = refl
+answer-report (suc n) b = refl
 
 abbrev answered : Outcome → Answer
 answered o = o .answer
@@ -48,8 +48,8 @@ new-answer table graph errors =
     go zero false false = refl
     go (suc n) short few = rw (ne-eqb (suc n) 0 (λ e. omega arith))
 
-pub new-told : (table graph errors : List ℕ) → builtTold (newOf table graph errors .answer) ≡ answering (newRefusal table graph errors) (buildValues (build (tableOf table)))
-new-told table graph errors = ap builtTold (new-answer table graph errors) ∙ answer-told (newRefusal table graph errors) (build (tableOf table))
+pub new-report : (table graph errors : List ℕ) → builtReport (newOf table graph errors .answer) ≡ answering (newRefusal table graph errors) (buildValues (build (tableOf table)))
+new-report table graph errors = ap builtReport (new-answer table graph errors) ∙ answer-report (newRefusal table graph errors) (build (tableOf table))
 
 pub image-answer : (image graph errors : List ℕ) → imageOf image graph errors .answer ≡ answerBy (imageRefusal image graph errors) (build (tableOf (wordsOf image)))
 unfolding imageOf imageRefusal
@@ -63,6 +63,6 @@ image-answer image graph errors = go (eqb (length image % 2) 1 || ltb 65536 (len
     go true = refl
     go false = new-answer w graph errors ∙ ap (λ (n : ℕ). answerBy n (build (tableOf w))) (sym (lowest-one (newRefusal w graph errors)))
 
-pub image-told : (image graph errors : List ℕ)
-    → builtTold (imageOf image graph errors .answer) ≡ answering (imageRefusal image graph errors) (buildValues (build (tableOf (wordsOf image))))
-image-told image graph errors = ap builtTold (image-answer image graph errors) ∙ answer-told (imageRefusal image graph errors) (build (tableOf (wordsOf image)))
+pub image-report : (image graph errors : List ℕ)
+    → builtReport (imageOf image graph errors .answer) ≡ answering (imageRefusal image graph errors) (buildValues (build (tableOf (wordsOf image))))
+image-report image graph errors = ap builtReport (image-answer image graph errors) ∙ answer-report (imageRefusal image graph errors) (build (tableOf (wordsOf image)))

@@ -4,7 +4,7 @@ use mathlib.Core.List.{List, [], _∷_}
 use Prim.Native.Nat.{ℕ, _+_, _*_, _%_}
 use lib.Dec.{eqb, ltb}
 use lib.ListN.{length, getD}
-use Rattle.lists.specs.Told.{on, lowest}
+use Rattle.lists.specs.Report.{on, lowest}
 use Rattle.graph_rules.specs.Table.{tableOf, refusal}
 use Rattle.graph_rules.specs.Build.{Built, build}
 use Rattle.graph.specs.New.{conflicts, wordsOf}

@@ -8,24 +8,24 @@ use native.Mathlib.Omega.{arith}
 use borrow.Author.Tests.{ne-eqb}
 use lib.Dec.{eqb, ltb}
 use lib.ListN.{length}
-use Rattle.lists.specs.Told.{on, lowest, answering}
-use Rattle.lists.proofs.Tellings.{lowest-one}
+use Rattle.lists.specs.Report.{on, lowest, answering}
+use Rattle.lists.proofs.Reports.{lowest-one}
 use Rattle.graph_rules.specs.Graph.{Graph, graphFrom, graphFits}
-use Rattle.readings.specs.Answers.{readTold}
-use Rattle.readings.specs.Told.{readValues}
-use Rattle.readings.proofs.Told.{refused-or-read}
+use Rattle.readings.specs.Answers.{readReport}
+use Rattle.readings.specs.Report.{readValues}
+use Rattle.readings.proofs.Report.{refused-or-read}
 use Rattle.mask_store.specs.declared.MaskStore.{MaskStore}
 use Rattle.mask_store.specs.Masks.{takes}
 use Rattle.plan_rules.specs.Plan.{base, needs, planSize}
 use Rattle.plan_rules.specs.Run.{run, isPlan}
-use Rattle.planning.proofs.Told.{three-a-state}
+use Rattle.planning.proofs.Report.{three-a-state}
 use Rattle.scans.specs.declared.scan.Scan.{Scan}
 use Rattle.scans.specs.Scan.{past, over}
-use Rattle.scans.specs.List.{listTold, listFor, noList, scanList}
-use Rattle.scans.specs.Told.{scanRefusal}
-use Rattle.scans.proofs.Told.{listTells, scan-list-told}
+use Rattle.scans.specs.List.{listReport, listFor, noList, scanList}
+use Rattle.scans.specs.Report.{scanRefusal}
+use Rattle.scans.proofs.Report.{listTells, scan-list-report}
 use Rattle.plans.specs.Run.{planRefusal, runRefusal, runCall, plannedRefusal, plannedList}
-use Rattle.plans.specs.Told.{planNumbers, runNumber, plannedNumber}
+use Rattle.plans.specs.Report.{planNumbers, runNumber, plannedNumber}
 
 module _ (graph words : List ℕ) (store : MaskStore) where
   abbrev g : Graph
@@ -52,10 +52,10 @@ module _ (graph words : List ℕ) (store : MaskStore) where
       go true = plan-number
       go false = refl
 
-  pub run-told : (text : List ℕ)
-      → readTold (runCall base graph words store text) ≡ answering (runNumber graph words store) (readValues (run base (graphFrom graph) words store text))
+  pub run-report : (text : List ℕ)
+      → readReport (runCall base graph words store text) ≡ answering (runNumber graph words store) (readValues (run base (graphFrom graph) words store text))
   unfolding runCall
-  run-told text =
+  run-report text =
       refused-or-read (runRefusal base graph words store) (run base g words store text)
       ∙ ap (λ (n : ℕ). answering n (readValues (run base g words store text))) run-number
 
@@ -93,12 +93,12 @@ module _ (graph words : List ℕ) (store : MaskStore) where
         go true false false true true true = refl
         go true false false true true false = refl
 
-    pub planned-told : (buffer : List ℕ)
-        → listTold (plannedList base graph words store text scan buffer .listed .answer)
+    pub planned-report : (buffer : List ℕ)
+        → listReport (plannedList base graph words store text scan buffer .listed .answer)
         ≡ answering (plannedNumber graph words store text scan) (length (listFor (graphFrom graph) text (length buffer / 3) scan .entries) ∷ [])
     unfolding plannedList
-    planned-told buffer =
-        go (plannedRefusal base graph words store text scan) (scan-list-told graph text scan buffer)
+    planned-report buffer =
+        go (plannedRefusal base graph words store text scan) (scan-list-report graph text scan buffer)
         ∙ ap (λ (n : ℕ). answering n (count ∷ [])) planned-number
       where
         count : ℕ

@@ -5,15 +5,15 @@ use mathlib.Core.List.{List, [], _∷_}
 use Prim.Native.Nat.{ℕ, zero, suc}
 use lib.ListN.{length, replicate}
 
-pub record Told : Type 0 where
+pub record Report : Type 0 where
   pub refusal : ℕ  -- 0: the call was not refused
   pub values : List ℕ
 
-abbrev pub telling : List ℕ → Told
-telling values = record { refusal = 0; values = values }
+abbrev pub reporting : List ℕ → Report
+reporting values = record { refusal = 0; values = values }
 
 -- refusal n of a call that has k values
-abbrev pub refusing : ℕ → ℕ → Told
+abbrev pub refusing : ℕ → ℕ → Report
 refusing n k = record { refusal = n; values = replicate k 0 }
 
 -- ---- which refusal it is
@@ -29,6 +29,6 @@ lowest (zero ∷ ns) = lowest ns
 lowest (suc n ∷ ns) = suc n
 
 -- a call that is refused by n, or that tells these values where n is 0
-abbrev pub answering : ℕ → List ℕ → Told
-answering zero values = telling values
+abbrev pub answering : ℕ → List ℕ → Report
+answering zero values = reporting values
 answering (suc n) values = refusing (suc n) (length values)
