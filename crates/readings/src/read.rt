@@ -37,7 +37,7 @@ pub fn accepted(accept: usize, k: usize, r: Record) -> Record
 }
 
 // The record at a state with these marks, entered by k byte steps.
-pub fn entered(marks: usize, k: usize, r: Record) -> Record
+pub fn mark_at(marks: usize, k: usize, r: Record) -> Record
     ensures { λ q. ⌜ recorded (q .leaf) (q .end) ≡ mark (orNone 255 (marks / 256)) (orNone 255 (marks % 256)) k (recorded (r .leaf) (r .end)) ⌝ }
 {
     let early = marks / 256;
@@ -51,7 +51,7 @@ pub fn entered(marks: usize, k: usize, r: Record) -> Record
 }
 
 // The record at a state of that accept, entered by the end step after k byte steps: only accept is read there.
-pub fn left(accept: usize, k: usize, r: Record) -> Record
+pub fn accept_at_end(accept: usize, k: usize, r: Record) -> Record
     ensures { λ q. ⌜ recorded (q .leaf) (q .end) ≡ late (orNone 255 accept) (suc k) (recorded (r .leaf) (r .end)) ⌝ }
 {
     if accept == 255 {

@@ -50,7 +50,7 @@ fn walk(table: &[u16], text: &[u8]) -> Record
         return r;
     }
     let last = leaves::leaf_of(table, t);
-    crate::read::left(last, k, r)
+    crate::read::accept_at_end(last, k, r)
 }
 
 // The reading of a text by a table, or 1 to 7.

@@ -1,8 +1,8 @@
 -- By cases of the first test. Assumes nothing.
 use borrow.Author.Tests.{le-leb, lt-leb}
 use native.Mathlib.Omega.{arith}
-use Rattle.runner.proofs.tests.in_range.Statement.{statement}
-use Rattle.runner.proofs.tests.in_range.Tie as tie
+use Rattle.runner.proofs.comparisons.in_range.Statement.{statement}
+use Rattle.runner.proofs.comparisons.in_range.Tie as tie
 
 returns : tie.Need-returns
 returns c = let given = c .before .args in rw (lt-leb (given .first) (given .byte) (omega arith))

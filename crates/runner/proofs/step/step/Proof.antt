@@ -2,11 +2,11 @@
 use Rattle.runner.proofs.Leading.{by-table, first-few, second-few, by-first, by-second, by-none}
 use native.Mathlib.Omega.{arith}
 use borrow.Author.Needs.{needs}
-use Rattle.runner.proofs.led.led_on.Statement.{statement}
-use Rattle.runner.proofs.led.led_on.Tie as tie
-use Rattle.runner.proofs.led.led_on.Reads as reads
-use Rattle.runner.proofs.led.led_on.Lts as lts
-use Rattle.runner.proofs.led.edge_takes.Reads as edge-takes-reads
+use Rattle.runner.proofs.step.step.Statement.{statement}
+use Rattle.runner.proofs.step.step.Tie as tie
+use Rattle.runner.proofs.step.step.Reads as reads
+use Rattle.runner.proofs.step.step.Lts as lts
+use Rattle.runner.proofs.step.edge_takes.Reads as edge-takes-reads
 use Rattle.words.proofs.graph.word.Reads as graph-word-reads
 use Rattle.words.proofs.word.Reads as word-reads
 
@@ -98,8 +98,8 @@ returns-4 c =
     let e = v .before .before in
     by-none (a .args .graph .now) (a .args .plan .now) (a .args .ends .now) (a .args .tests .now) (a .args .tables .now) (a .pre .0) (a .pre .1 .0) (a .pre .1 .1 .0 .1 .1) (a .args .s) (a .args .byte) (a .pre .1 .1 .1 .0) (w .word .result) (w .word .ensures .0) (e .before .if1 .left) (e .edge-takes .result) (e .edge-takes .ensures) (v .before .if2 .left) (v .word4 .result) (v .word4 .ensures .0) (x .edge-takes2 .result) (x .edge-takes2 .ensures) (c .if3 .left)
 
-pub led-on-spec : {M : Type 1} → statement M
-led-on-spec =
+pub step-spec : {M : Type 1} → statement M
+step-spec =
     tie.close
     (tie.spec
     mul-word

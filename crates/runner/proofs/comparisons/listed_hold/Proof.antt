@@ -3,8 +3,8 @@ use borrow.Author.Needs.{needs}
 use Prim.Native.Nat.{_*_}
 use native.Mathlib.Omega.{arith}
 use Rattle.runner.proofs.Packed.{parts-hold}
-use Rattle.runner.proofs.tests.listed_hold.Statement.{statement}
-use Rattle.runner.proofs.tests.listed_hold.Tie as tie
+use Rattle.runner.proofs.comparisons.listed_hold.Statement.{statement}
+use Rattle.runner.proofs.comparisons.listed_hold.Tie as tie
 
 mul-at : tie.Need-mul-at
 mul-at c = search needs

@@ -21,13 +21,13 @@ fn edge_takes(tables: &[u8; 2048], tests: &[u8], w: usize, e: usize, byte: u8) -
         return false;
     }
     if w == 1 {
-        return crate::tests::edge_holds(tests, e, byte);
+        return crate::comparisons::edge_holds(tests, e, byte);
     }
     mask_store::tables::mask_has(tables, w - 2, byte)
 }
 
 // The state that the byte leads to from state s, or 65,535.
-pub(crate) fn led_on(
+pub(crate) fn step(
     graph: &[u16],
     plan: &[u16],
     tables: &[u8; 2048],

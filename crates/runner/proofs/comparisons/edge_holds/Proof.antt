@@ -2,8 +2,8 @@
 use borrow.Author.Needs.{needs}
 use native.Mathlib.Omega.{arith}
 use Rattle.runner.proofs.Packed.{one-holds}
-use Rattle.runner.proofs.tests.edge_holds.Statement.{statement}
-use Rattle.runner.proofs.tests.edge_holds.Tie as tie
+use Rattle.runner.proofs.comparisons.edge_holds.Statement.{statement}
+use Rattle.runner.proofs.comparisons.edge_holds.Tie as tie
 
 mul-at : tie.Need-mul-at
 mul-at c = search needs
