@@ -13,8 +13,8 @@ use Rattle.graph_rules.specs.Graph.{Graph, graphFits, graphFrom}
 use Rattle.scans.specs.declared.scan.Place.{Place}
 use Rattle.scans.specs.declared.scan.Place.the-variants.{Reading, Ended}
 use Rattle.scans.specs.declared.scan.Scan.{Scan}
-use Rattle.scans.specs.declared.scan.Answer.{Answer}
-use Rattle.scans.specs.declared.scan.Answer.the-variants.{Token, Gap, Ended as AtEnd, Refused}
+use Rattle.scans.specs.declared.scan.NextAnswer.{NextAnswer}
+use Rattle.scans.specs.declared.scan.NextAnswer.the-variants.{Token, Gap, Ended as AtEnd, Refused}
 use Rattle.scans.specs.declared.scan.Entry.{Entry}
 use Rattle.graph_rules.specs.Read.{readGraph}
 use Rattle.scans.specs.Scan.{readingAt, hasEnded, scanReport, entryOf, scannedBy, scanFrom, scanAt, scanOf as scannedOf, next}
@@ -85,7 +85,7 @@ list-keeps : (graph text buffer : List ℕ) (s : Scan) → Refuses (listReport (
 unfolding scanList
 list-keeps graph text buffer s refused = go (is (graphFits graph))
   where
-    told : (a : Answer) (l : Listing) → Refuses (listReport (unlessRefused a s buffer l .listed .answer)) → unlessRefused a s buffer l .listed .scan ≡ s
+    told : (a : NextAnswer) (l : Listing) → Refuses (listReport (unlessRefused a s buffer l .listed .answer)) → unlessRefused a s buffer l .listed .scan ≡ s
     told (Token leaf start end) l r = absurd (r refl)
     told (Gap start end) l r = absurd (r refl)
     told AtEnd l r = absurd (r refl)

@@ -3,11 +3,11 @@ ghost use mathlib.Core.Path.{_≡_};
 ghost use mathlib.Core.List.{[], _∷_};
 ghost use Rattle.lists.specs.Report.{Report};
 ghost use Rattle.graph.specs.New.{builtReport, newOf, imageOf};
-use graph::new::Answer;
+use graph::new::BuildAnswer;
 
 // The answer of a build, stored.
 fn store(
-    answer: Answer,
+    answer: BuildAnswer,
     states: &mut usize,
     root: &mut usize,
     count: &mut usize,
@@ -20,14 +20,14 @@ fn store(
     *count = 0;
     *words = 0;
     match answer {
-        Answer::Built(counts) => {
+        BuildAnswer::Built(counts) => {
             *states = counts.states;
             *root = counts.root;
             *count = counts.errors;
             *words = counts.words;
             0
         }
-        Answer::Refused(n) => n,
+        BuildAnswer::Refused(n) => n,
     }
 }
 

@@ -7,7 +7,7 @@ ghost use Rattle.scans.specs.List.{listReport, scanList};
 ghost use Rattle.capi.specs.Plans.{listIn};
 ghost use Rattle.capi.specs.Scans.{scanOf, numberOf};
 use plans::list::ListAnswer;
-use plans::scan::Answer;
+use plans::scan::NextAnswer;
 use plans::scan::Place;
 use plans::scan::Scan;
 
@@ -40,7 +40,7 @@ fn number_of(scan: Scan) -> usize
 
 // An answer of the scan, stored.
 fn store(
-    answer: Answer,
+    answer: NextAnswer,
     kind: &mut usize,
     leaf: &mut usize,
     start: &mut usize,
@@ -53,21 +53,21 @@ fn store(
     *start = 0;
     *end = 0;
     match answer {
-        Answer::Token(l, s, e) => {
+        NextAnswer::Token(l, s, e) => {
             *kind = 1;
             *leaf = l;
             *start = s;
             *end = e;
             0
         }
-        Answer::Gap(s, e) => {
+        NextAnswer::Gap(s, e) => {
             *kind = 2;
             *start = s;
             *end = e;
             0
         }
-        Answer::Ended => 0,
-        Answer::Refused(n) => n,
+        NextAnswer::Ended => 0,
+        NextAnswer::Refused(n) => n,
     }
 }
 

@@ -18,7 +18,7 @@ use Rattle.graph_rules.specs.Graph.{graphBuffer, stateFrom, graphFrom, graphFit
 use Rattle.graph_rules.specs.Read.{Bytes, Orderly, Clean}
 use Rattle.readings.specs.Answers.{tableRead}
 use Rattle.graph.specs.New.{conflicts, wrote, wroteOr9, writtenOr, newOf}
-use Rattle.graph.specs.declared.new.Answer.the-variants.{Built as Made}
+use Rattle.graph.specs.declared.new.BuildAnswer.the-variants.{Built as Made}
 use Rattle.mask_store.specs.declared.MaskStore.{MaskStore}
 use Rattle.mask_store.specs.Masks.{tableAt, classAt, held, written, heldWith, grown, allowed, takes}
 use Rattle.edges.specs.Edges.{classTo, leadsTo, targets}

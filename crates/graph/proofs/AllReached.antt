@@ -10,7 +10,7 @@ use Rattle.graph_rules.specs.Build.{build, emptyLeaves}
 use Rattle.graph_rules.specs.Read.{Orderly, Clean}
 use Rattle.graph_rules.proofs.Promises.{built-back, clean-no-empty, tied-reached as build-reached}
 use Rattle.graph.specs.declared.new.Counts.{Counts}
-use Rattle.graph.specs.declared.new.Answer.the-variants.{Built as Made}
+use Rattle.graph.specs.declared.new.BuildAnswer.the-variants.{Built as Made}
 use Rattle.graph.specs.New.{newOf}
 use Rattle.graph.proofs.Outcomes.{answered, words-first}
 

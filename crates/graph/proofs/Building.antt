@@ -14,7 +14,7 @@ use Rattle.graph_rules.specs.Graph.{Graph, graphWords, graphBuffer}
 use Rattle.graph_rules.specs.Build.{Built, noUniversalStart, emptyMatch, errorWords, emptyLeaves, noStates, reached, ties, buildFrom, build}
 use Rattle.graph_rules.proofs.Shape.{size-is}
 use Rattle.conflicts.specs.Listed.{listed}
-use Rattle.graph.specs.declared.new.Answer.the-variants.{Built as Made}
+use Rattle.graph.specs.declared.new.BuildAnswer.the-variants.{Built as Made}
 use Rattle.graph.specs.New.{refusedBy, conflicts, wroteOr9, writtenOr, newOf}
 use Rattle.graph.proofs.Written.{short, enough}
 

@@ -10,7 +10,7 @@ use Rattle.graph_rules.specs.Graph.{Graph, stateOf, graphFrom}
 use Rattle.graph_rules.specs.Build.{build}
 use Rattle.graph_rules.proofs.Promises.{no-equal-states}
 use Rattle.graph.specs.declared.new.Counts.{Counts}
-use Rattle.graph.specs.declared.new.Answer.the-variants.{Built as Made}
+use Rattle.graph.specs.declared.new.BuildAnswer.the-variants.{Built as Made}
 use Rattle.graph.specs.New.{conflicts, newOf}
 use Rattle.graph.proofs.Outcomes.{answered}
 use Rattle.graph.proofs.AllReached.{returned-back}

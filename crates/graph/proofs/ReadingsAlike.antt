@@ -13,7 +13,7 @@ use Rattle.graph_rules.specs.Read.{Bytes, Orderly, Clean, Reading}
 use Rattle.graph_rules.proofs.Promises.{built-taken, clean-no-empty, words-alike}
 use Rattle.readings.specs.declared.read.Read.{Read}
 use Rattle.graph.specs.declared.new.Counts.{Counts}
-use Rattle.graph.specs.declared.new.Answer.the-variants.{Built as Made}
+use Rattle.graph.specs.declared.new.BuildAnswer.the-variants.{Built as Made}
 use Rattle.readings.specs.Answers.{reading, readReport, tableRead, graphRead}
 use Rattle.graph.specs.New.{newOf}
 use Rattle.readings.proofs.Answering.{graph-answered, table-answered}

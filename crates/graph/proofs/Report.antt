@@ -12,13 +12,13 @@ use Rattle.lists.specs.Report.{on, lowest, answering}
 use Rattle.lists.proofs.Reports.{lowest-one}
 use Rattle.graph_rules.specs.Table.{tableOf, refusal}
 use Rattle.graph_rules.specs.Build.{Built, build}
-use Rattle.graph.specs.declared.new.Answer.{Answer}
-use Rattle.graph.specs.declared.new.Answer.the-variants.{Built as Made, Refused}
+use Rattle.graph.specs.declared.new.BuildAnswer.{BuildAnswer}
+use Rattle.graph.specs.declared.new.BuildAnswer.the-variants.{Built as Made, Refused}
 use Rattle.graph.specs.New.{builtReport, Outcome, refusedBy, countsOf, conflicts, wrote, wroteOr9, writtenOr, newOf, wordsOf, imageOf}
 use Rattle.graph.specs.Report.{newRefusal, imageRefusal, buildValues}
 
 -- the answer by the refusal's number, 0 for none
-abbrev pub answerBy : ℕ → Built → Answer
+abbrev pub answerBy : ℕ → Built → BuildAnswer
 answerBy zero b = Made (countsOf b)
 answerBy (suc n) b = Refused (suc n)
 
@@ -26,7 +26,7 @@ answer-report : (n : ℕ) (b : Built) → builtReport (answerBy n b) ≡ answeri
 answer-report zero b = refl
 answer-report (suc n) b = refl
 
-abbrev answered : Outcome → Answer
+abbrev answered : Outcome → BuildAnswer
 answered o = o .answer
 
 pub new-answer : (table graph errors : List ℕ) → newOf table graph errors .answer ≡ answerBy (newRefusal table graph errors) (build (tableOf table))

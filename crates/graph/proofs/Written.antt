@@ -19,7 +19,7 @@ use Rattle.graph_rules.specs.Build.{Error, Built, emptyMatch, errorWords, empty
 use Rattle.graph_rules.proofs.Shape.{few-leaves}
 use Rattle.conflicts.specs.Listed.{listed}
 use Rattle.graph.specs.declared.new.Counts.{Counts}
-use Rattle.graph.specs.declared.new.Answer.the-variants.{Built as Made, Refused}
+use Rattle.graph.specs.declared.new.BuildAnswer.the-variants.{Built as Made, Refused}
 use Rattle.graph.specs.New.{Outcome, refusedBy, conflicts, countsOf, wrote, wroteOr9}
 
 module _ (n : ℕ) (b : Built) (graph errors : List ℕ) where

@@ -9,17 +9,17 @@ use Rattle.graph_rules.specs.Table.{tableOf, refusal}
 use Rattle.graph_rules.specs.Graph.{graphBuffer}
 use Rattle.graph_rules.specs.Build.{Built, errorWords, build}
 use Rattle.graph.specs.declared.new.Counts.{Counts}
-use Rattle.graph.specs.declared.new.Answer.{Answer}
-use Rattle.graph.specs.declared.new.Answer.the-variants.{Built as Made, Refused}
+use Rattle.graph.specs.declared.new.BuildAnswer.{BuildAnswer}
+use Rattle.graph.specs.declared.new.BuildAnswer.the-variants.{Built as Made, Refused}
 
 -- in document 01's numbers: states, root, errors, error words
-abbrev pub builtReport : Answer → Report
+abbrev pub builtReport : BuildAnswer → Report
 builtReport (Made c) = reporting (c .states ∷ c .root ∷ c .errors ∷ c .words ∷ [])
 builtReport (Refused n) = refusing n 4
 
 -- an answer, and the two buffers after it
 pub record Outcome : Type 0 where
-  pub answer : Answer
+  pub answer : BuildAnswer
   pub graph : List ℕ
   pub errors : List ℕ
 

@@ -14,7 +14,7 @@ use Rattle.graph_rules.specs.Read.{Bytes, Orderly, Clean, readGraph}
 use Rattle.graph_rules.proofs.Promises.{clean-no-empty}
 use Rattle.readings.specs.declared.read.Read.the-variants.{Refused}
 use Rattle.graph.specs.declared.new.Counts.{Counts}
-use Rattle.graph.specs.declared.new.Answer.the-variants.{Built as Made}
+use Rattle.graph.specs.declared.new.BuildAnswer.the-variants.{Built as Made}
 use Rattle.readings.specs.Answers.{reading, readReport, tableRead, graphRead}
 use Rattle.graph.specs.New.{newOf}
 use Rattle.readings.proofs.Answering.{graph-answered}

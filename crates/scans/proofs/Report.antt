@@ -14,7 +14,7 @@ use Rattle.graph_rules.specs.Read.{Reading, readGraph}
 use Rattle.scans.specs.declared.scan.Place.{Place}
 use Rattle.scans.specs.declared.scan.Place.the-variants.{Reading as ReadingAt, Ended as HasEnded}
 use Rattle.scans.specs.declared.scan.Scan.{Scan}
-use Rattle.scans.specs.declared.scan.Answer.the-variants.{Token, Gap, Ended, Refused}
+use Rattle.scans.specs.declared.scan.NextAnswer.the-variants.{Token, Gap, Ended, Refused}
 use Rattle.scans.specs.declared.scan.Entry.{Entry}
 use Rattle.scans.specs.declared.scan.Scanned.{Scanned}
 use Rattle.scans.specs.Scan.{readingAt, hasEnded, scanReport, gapAt, entryOf, scannedBy, scanFrom, past, over, scanAt, scanOf, next}

@@ -11,8 +11,8 @@ use Rattle.graph_rules.specs.Read.{Reading, readGraph}
 use Rattle.scans.specs.declared.scan.Place.{Place}
 use Rattle.scans.specs.declared.scan.Place.the-variants.{Reading as ReadingAt, Ended as HasEnded}
 use Rattle.scans.specs.declared.scan.Scan.{Scan}
-use Rattle.scans.specs.declared.scan.Answer.{Answer}
-use Rattle.scans.specs.declared.scan.Answer.the-variants.{Token, Gap, Ended, Refused}
+use Rattle.scans.specs.declared.scan.NextAnswer.{NextAnswer}
+use Rattle.scans.specs.declared.scan.NextAnswer.the-variants.{Token, Gap, Ended, Refused}
 use Rattle.scans.specs.declared.scan.Entry.{Entry}
 use Rattle.scans.specs.declared.scan.Scanned.{Scanned}
 
@@ -28,7 +28,7 @@ abbrev pub fresh : Scan
 fresh = readingAt 0
 
 -- an answer in document 01's numbers: 1 for a token, 2 for a gap, 0 for ended; leaf, start, end
-abbrev pub scanReport : Answer → Report
+abbrev pub scanReport : NextAnswer → Report
 scanReport (Token leaf start end) = reporting (1 ∷ leaf ∷ start ∷ end ∷ [])
 scanReport (Gap start end) = reporting (2 ∷ 0 ∷ start ∷ end ∷ [])
 scanReport Ended = reporting (0 ∷ 0 ∷ 0 ∷ 0 ∷ [])
