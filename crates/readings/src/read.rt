@@ -84,7 +84,7 @@ pub fn walk(graph: &[u16], text: &[u8]) -> Record
     let mut k: usize = 0;
     while k < text.len() {
         let marks = words::graph::word(graph, s, 257);
-        r = entered(marks, k, r);
+        r = mark_at(marks, k, r);
         let b = byte(text, k);
         let t = words::graph::word(graph, s, b);
         if t == 65535 {
@@ -94,13 +94,13 @@ pub fn walk(graph: &[u16], text: &[u8]) -> Record
         k += 1;
     }
     let marks = words::graph::word(graph, s, 257);
-    r = entered(marks, k, r);
+    r = mark_at(marks, k, r);
     let t = words::graph::word(graph, s, 256);
     if t == 65535 {
         return r;
     }
     let last = words::graph::word(graph, t, 257);
-    left(last % 256, k, r)
+    accept_at_end(last % 256, k, r)
 }
 
 // A record as an answer.
