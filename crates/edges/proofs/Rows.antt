@@ -9,13 +9,14 @@ use native.Mathlib.Omega.{arith}
 use borrow.Author.Count.{below-more}
 use borrow.Author.Tests.{eqb-true, eqb-false, ne-eqb}
 use lib.Dec.{eqb}
-use lib.ListN.{length, getD, set, take, length-set}
+use lib.ListN.{length, getD, set, take, length-set, length-take}
 use lib.Seq.{length-take-le, getD-take, getD-set-same, getD-set-other, take-suc, take-all, ext-getD}
 use Rattle.lists.specs.Lists.{tab, anyL, eqOption}
 use Rattle.lists.proofs.Bools.{Is, is, yes-is, no-is, or-right, or-false}
-use Rattle.lists.proofs.Any.{any-snoc}
-use Rattle.lists.proofs.Elements.{length-tab, getD-tab0}
-use Rattle.graph_rules.specs.Graph.{State}
+use Rattle.lists.proofs.Any.{any-found, any-snoc}
+use Rattle.lists.proofs.Elements.{length-tab, getD-tab0, option-sound}
+use Rattle.graph_rules.specs.Graph.{State, stateOf, to, graphFrom, graphFits}
+use Rattle.words.proofs.GraphWords.{from-edge}
 use Rattle.edges.specs.Edges.{bytesOf, classTo, leadsTo}
 use Rattle.edges.proofs.ByTarget.{class-flag, class-whole}
 use Rattle.graph_rules.specs.Layout.{endStep, noState, mostStates}
@@ -107,3 +108,13 @@ module _ (st : State) (wide : endStep ≤ length (st .steps)) where
       let e : take b (bytesOf st) ≡ bytesOf st = take-all b (bytesOf st) (let e = row-length in omega arith) in
       ext-getD false found (tab 0 mostStates (leadsTo st)) (r ∙ sym (length-tab 0 mostStates (leadsTo st)))
       (λ u i. let k : u < mostStates = omega arith in m .marked u k ∙ ap (anyL (eqOption (some u))) e ∙ sym (getD-tab0 mostStates (leadsTo st) u false k))
+
+-- ---- an edge of well-formed graph words leads to a state
+
+pub led-below : (w : List ℕ) → graphFits w ≡ true → (s u : ℕ) → leadsTo (stateOf (graphFrom w) s) u ≡ true → u < getD w 0 0
+unfolding leadsTo to
+led-below w fits s u e =
+    let st = stateOf (graphFrom w) s in
+    let (b, l, q) = any-found (eqOption (some u)) none (bytesOf st) e in
+    let b′ : b < endStep = (let t = length-take endStep (st .steps) in omega arith) in
+    from-edge w fits s b u (sym (option-sound .eq (some u) (getD (bytesOf st) b none) q ∙ getD-take endStep (st .steps) b none b′)) .3

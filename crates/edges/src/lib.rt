@@ -30,7 +30,7 @@ pub fn class_to(graph: &[u16], s: usize, u: usize) -> [bool; 256]
 }
 
 // Which states the byte edges of state s lead to: the first n of the flags are those of the states, and an edge leads to no
-// other.
+// other (`led-below`).
 pub fn targets(graph: &[u16], s: usize) -> [bool; STATES]
     requires { ⌜ graphFits (now graph) ≡ true ⌝ }
     requires { ⌜ s < getD (now graph) 0 0 ⌝ }
