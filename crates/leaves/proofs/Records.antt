@@ -9,15 +9,12 @@ use lib.ListN.{length, getD, List·getD-eq-default}
 use Rattle.lists.proofs.Bools.{lt-or-le}
 use Rattle.graph_rules.specs.Table.{Row, tableOf, rowOf, matchOf, refusal}
 use Rattle.graph_rules.proofs.Flat.{head-word}
-use Rattle.legal.specs.Conditions.{Sized, leafWord}
+use Rattle.legal.specs.Conditions.{leafWord}
 use Rattle.legal.proofs.Counts.{rows-length}
 use Rattle.legal.proofs.Judging.{match-leaf, match-next}
 use Rattle.legal.proofs.Legal.{legal-means}
 
 module _ (w : List ℕ) (legal : refusal w ≡ 0) where
-  pub sizes : Sized w
-  sizes = legal-means w legal .sized
-
   -- a state past the last has the empty chain
   pub head-below : (s : ℕ) → rowOf (tableOf w) s .head ≤ getD w 3 0
   unfolding rowOf

@@ -1,17 +1,15 @@
--- The steps and the start of a legal table, by the numbers that the code holds. Assumes nothing.
-use mathlib.Core.Path.{_≡_, refl, sym, ap, subst, subst₂, _∙_}
+-- The start of a legal table, and an edge of it, by the numbers that the code holds. Assumes nothing.
+use mathlib.Core.Path.{_≡_, refl, sym, ap, subst₂, _∙_}
 use mathlib.Core.List.{List}
 use mathlib.Core.Option.{none, some}
 use Prim.Native.Nat.{ℕ, zero, suc, _<_}
-use native.Mathlib.Omega.{arith}
-use lib.ListN.{length, getD}
-use Rattle.graph_rules.specs.Table.{tableOf, refusal, size, step}
+use lib.ListN.{getD}
+use Rattle.graph_rules.specs.Table.{tableOf, refusal}
 use Rattle.graph_rules.specs.Build.{edge}
 use Rattle.graph_rules.specs.Read.{onward, walk, tableWalker, readTable}
-use Rattle.graph_rules.proofs.Shape.{start-none, start-some, legal-step, legal-start, size-is, exact}
-use Rattle.graph_rules.proofs.Flat.{step-word}
+use Rattle.graph_rules.proofs.Shape.{start-none, start-some, legal-start, size-is}
 use Rattle.readings.proofs.Turn.{rest}
-use Rattle.graph_rules.specs.Layout.{stepCount, noState, rowPlace}
+use Rattle.graph_rules.specs.Layout.{noState}
 
 pub edge-none : (u : ℕ) → u ≡ 0 → edge u ≡ none
 edge-none u e = ap edge e
@@ -39,15 +37,3 @@ module _ (w : List ℕ) (s : ℕ) (at : s ≡ getD w 1 0) where
 
     pub start-below : refusal w ≡ 0 → s < getD w 0 0
     start-below legal = subst₂ (λ (x y : ℕ). x < y) (sym at) (size-is w legal) (legal-start w legal (getD w 1 0) (start-some w (λ q. some-start (at ∙ q))))
-
--- ---- a step, by its word
-
-module _ (w : List ℕ) (legal : refusal w ≡ 0) (s c m : ℕ) (h : s < getD w 0 0) (b : c < stepCount) (em : m ≡ getD w 2 0) where
-  pub step-inside : rowPlace m s c < length w
-  step-inside = let e = exact w legal in omega arith
-
-  pub step-read : (u : ℕ) → u ≡ getD w (rowPlace m s c) 0 → (u ≡ step (tableOf w) s c) × (u < getD w 0 0)
-  step-read u eu =
-      let e : u ≡ step (tableOf w) s c = eu ∙ ap (λ (x : ℕ). getD w (rowPlace x s c) 0) em ∙ sym (step-word w s c h b) in
-      let z : size (tableOf w) ≡ getD w 0 0 = size-is w legal in
-      (e, subst₂ (λ (x y : ℕ). x < y) (sym e) z (legal-step w legal s c (subst (λ (y : ℕ). s < y) (sym z) h)))

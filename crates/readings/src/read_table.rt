@@ -8,20 +8,11 @@ ghost use Rattle.graph_rules.specs.Read.{readTable, late, onward};
 ghost use Rattle.readings.specs.Answers.{recorded, tableRead};
 use crate::read::Read;
 use crate::read::Record;
+use legal::step;
 use words::END;
 use words::NONE;
 use words::graph::NO_LEAF;
-ghost use Rattle.graph_rules.specs.Layout.{endStep, stepCount};
-
-// The target of state s for byte c, or for the end step.
-fn step(table: &[u16], s: usize, c: usize) -> usize
-    requires { ⌜ refusal (now table) ≡ 0 ⌝ }
-    requires { ⌜ s < getD (now table) 0 0 ⌝ }
-    requires { ⌜ c < stepCount ⌝ }
-    ensures { λ r. ⌜ (r ≡ step (tableOf (now (table .entry))) s c) × (r < getD (now (table .entry)) 0 0) ⌝ }
-{
-    words::table::row_word(table, words::table::leaves(table), s, c)
-}
+ghost use Rattle.graph_rules.specs.Layout.{endStep};
 
 // The record at state s, entered by k byte steps.
 fn mark_at(table: &[u16], s: usize, k: usize, r: Record) -> Record

@@ -5,15 +5,16 @@ use native.Mathlib.Omega.{arith}
 use lib.ListN.{getD}
 use Rattle.graph_rules.proofs.Flat.{head-word}
 use Rattle.graph_rules.specs.Layout.{headPlace, rowPlace}
-use Rattle.leaves.proofs.Records.{sizes, head-below}
+use Rattle.legal.proofs.Legal.{legal-sized}
+use Rattle.leaves.proofs.Records.{head-below}
 use Rattle.leaves.proofs.head.Statement.{statement}
 use Rattle.leaves.proofs.head.Tie as tie
 
 leaves-requires : tie.Need-leaves-requires
-leaves-requires c κs = let z = sizes _ (c .before .pre .0) in omega arith
+leaves-requires c κs = let z = legal-sized _ (c .before .pre .0) in omega arith
 
 row-word-requires : tie.Need-row-word-requires
-row-word-requires c κs = let z = sizes _ (c .before .before .pre .0) in omega arith
+row-word-requires c κs = let z = legal-sized _ (c .before .before .pre .0) in omega arith
 
 returns : tie.Need-returns
 returns c =
