@@ -1,6 +1,7 @@
 pub mod Bools
 pub mod Elements
 pub mod Pieces
+pub mod Counting
 pub mod Closure
 pub mod Worklist
 pub mod Numbering

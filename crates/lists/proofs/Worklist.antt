@@ -11,7 +11,7 @@ use lib.ListN.{length, getD, set, take, length-set, replicate, length-replicate}
 use native.Mathlib.Numerals.{add-one}
 use lib.Seq.{getD-set-same, getD-set-other}
 use Rattle.lists.specs.Sets.{In, count}
-use Rattle.lists.proofs.Closure.{count-length}
+use Rattle.lists.proofs.Counting.{count-length}
 
 -- ---- one more member
 pub in-keeps : (l : List Bool) (i k : ℕ) → In l k → In (set l i true) k
