@@ -17,7 +17,6 @@ pub mod Selections
 pub mod Grid
 pub mod Runs
 pub mod Members
-pub mod Disjunctions
 pub mod Intervals
 pub mod Selecting
 pub mod Numbers
