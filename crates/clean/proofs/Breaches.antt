@@ -20,7 +20,7 @@ use Rattle.graph_rules.proofs.Unpruned.{reached-length}
 use Rattle.clean.specs.declared.Verdict.the-variants.{Refused}
 use Rattle.clean.specs.Answers.{verdict, cleanOf}
 use Rattle.clean.specs.Held.{lowestIn}
-use Rattle.conflicts.proofs.Chosen.{those-map}
+use Rattle.lists.proofs.Those.{those-map}
 use Rattle.clean.proofs.Lowest.{lowest-padded}
 use Rattle.graph_rules.specs.Layout.{noState, mostStates}
 

@@ -11,7 +11,6 @@ use lib.Dec.{eqb, ltb}
 use lib.ListN.{length, getD}
 use Rattle.lists.specs.Lists.{allL, those}
 use Rattle.lists.proofs.Bools.{Is, is, yes-is, no-is, and-intro}
-use Rattle.lists.proofs.Elements.{eqb-sound}
 use Rattle.lists.proofs.Those.{those-keep}
 use Rattle.lists.proofs.Rising.{Rising, rising-nil, rising-cons, rising-those, rising-few}
 use Rattle.graph_rules.specs.Table.{Table, tableOf, matchOf, refusal}

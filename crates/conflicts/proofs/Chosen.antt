@@ -1,7 +1,7 @@
 -- The states of a set that pass a test, from state s on, of n, as a loop meets them that goes down from the last. Assumes nothing.
-use mathlib.Core.Path.{_≡_, refl, ap}
+use mathlib.Core.Path.{_≡_, ap}
 use mathlib.Core.Bool.{Bool, true, false, _&&_}
-use mathlib.Core.List.{List, [], _∷_, map}
+use mathlib.Core.List.{List, [], _∷_}
 use Prim.Native.Nat.{ℕ, suc, _-_, _<_}
 use native.Mathlib.Omega.{arith}
 use lib.ListN.{getD, drop}
@@ -39,11 +39,3 @@ module _ (n : ℕ) (set : List Bool) (p : ℕ → Bool) where
     chosen-more q =
         let (m, r) = and-both (getD set s false) (p s) q in
         rw (on, select-in set s s (tab (suc s) (n - suc s) (λ i. i)) m) (rw (r, those))
-
-pub those-map : {A : Type 0} (p : A → Bool) (f : ℕ → A) (l : List ℕ) → those p (map f l) ≡ map f (those (λ x. p (f x)) l)
-those-map p f [] = refl
-those-map {A} p f (x ∷ l) = go (is (p (f x))) (those-map p f l)
-  where
-    go : Is (p (f x)) → those p (map f l) ≡ map f (those (λ x. p (f x)) l) → those p (f x ∷ map f l) ≡ map f (those (λ x. p (f x)) (x ∷ l))
-    go (yes-is q) e = rw (q, those) (ap {B = List A} (λ r. f x ∷ r) e)
-    go (no-is q) e = rw (q, those) e

@@ -12,12 +12,13 @@ use Rattle.lists.proofs.Bools.{Is, is, yes-is, no-is, and-both, and-intro, and-
 use Rattle.lists.proofs.Elements.{length-tab}
 use Rattle.lists.proofs.Selections.{select-take}
 use Rattle.lists.proofs.Sorted.{total, sorted-total, sorted-length}
+use Rattle.lists.proofs.Those.{those-map}
 use Rattle.graph_rules.specs.Table.{Table, tableOf, refusal}
 use Rattle.graph_rules.specs.Build.{contenders, Error, disambiguation, errorWords, ties}
 use Rattle.graph_rules.proofs.Shape.{size-is}
 use Rattle.leaves.specs.Chains.{topOf, nextTied, tieFrom}
 use Rattle.conflicts.specs.Slots.{tiedAt}
-use Rattle.conflicts.proofs.Chosen.{chosenOn, chosen-end, chosen-all, chosen-pass, chosen-more, those-map}
+use Rattle.conflicts.proofs.Chosen.{chosenOn, chosen-end, chosen-all, chosen-pass, chosen-more}
 use Rattle.leaves.proofs.Contenders.{contenders-top, tie-end, tie-step, next-tied-low, top-low}
 use Rattle.graph_rules.specs.Layout.{mostLeaves}
 

@@ -6,7 +6,7 @@ use lib.ListN.{getD}
 use Rattle.graph_rules.proofs.Flat.{head-word}
 use Rattle.graph_rules.specs.Layout.{headPlace, rowPlace}
 use Rattle.legal.proofs.Legal.{legal-sized}
-use Rattle.leaves.proofs.Records.{head-below}
+use Rattle.graph_rules.proofs.Shape.{head-fits}
 use Rattle.leaves.proofs.head.Statement.{statement}
 use Rattle.leaves.proofs.head.Tie as tie
 
@@ -24,7 +24,7 @@ returns c =
     let e = c .row-word .ensures .0
     ∙ ap (λ (m : ℕ). getD w (rowPlace m s headPlace) 0) (c .before .leaves .ensures .0)
     ∙ sym (head-word w s (at .pre .1)) in
-    let l = head-below w (at .pre .0) s in
+    let l = head-fits w (at .pre .0) s in
     (e, omega arith)
 
 pub head-spec : {M : Type 1} → statement M

@@ -1,7 +1,8 @@
 -- By whether the end target is dead. Assumes nothing.
 use borrow.Author.Needs.{needs}
 use Rattle.graph_rules.proofs.LeafWords.{leaf-back}
-use Rattle.readings.proofs.TableTurn.{edge-none, edge-some}
+use Rattle.graph_rules.proofs.Reached.{edge-of}
+use Rattle.readings.proofs.TableTurn.{edge-none}
 use Rattle.readings.proofs.read_table.ended.Statement.{statement}
 use Rattle.readings.proofs.read_table.ended.Tie as tie
 
@@ -22,7 +23,7 @@ returns-2 c =
     let a = c .before .before .before .before .before in
     rw (
       ← c .before .before .before .step .ensures .0,
-      edge-some _ (c .before .before .if1 .left),
+      edge-of _ (c .before .before .if1 .left),
       ← leaf-back (a .args .table .now) (a .pre .0) _ _ (c .before .leaf-of .ensures),
     )
     (c .accept-at-end .ensures)

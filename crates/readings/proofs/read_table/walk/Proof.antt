@@ -10,7 +10,8 @@ use Rattle.graph_rules.specs.Read.{tableWalker, readTable}
 use Rattle.graph_rules.proofs.Shape.{exact}
 use Rattle.readings.specs.Answers.{recorded}
 use Rattle.readings.proofs.Turn.{rest, turn-stops, turn-goes, turn-ends}
-use Rattle.readings.proofs.TableTurn.{edge-none, edge-some, starts-none, starts-dead, starts-at, start-below}
+use Rattle.graph_rules.proofs.Reached.{edge-of}
+use Rattle.readings.proofs.TableTurn.{edge-none, starts-none, starts-dead, starts-at, start-below}
 use Rattle.readings.proofs.read_table.walk.Statement.{statement}
 use Rattle.readings.proofs.read_table.walk.Tie as tie
 
@@ -77,7 +78,7 @@ loop-again c =
       c .before .step .ensures .1,
       omega arith,
       turn-goes (tableWalker (tableOf (a .args .table .now))) (a .args .text .now) (l .s) (l .k) _ _ _ (l .inv .2) (c .before .before .before .mark-at .ensures)
-          (by .result) (c .before .before .before .before .loop-test .taken) (by .ensures .0) _ (ap edge (sym (c .before .step .ensures .0)) ∙ edge-some _ (c .if3 .left)),
+          (by .result) (c .before .before .before .before .loop-test .taken) (by .ensures .0) _ (ap edge (sym (c .before .step .ensures .0)) ∙ edge-of _ (c .if3 .left)),
     )
 
 mark-at-requires-2 : tie.Need-mark-at-requires-2 Inv-loop μ-loop
