@@ -113,7 +113,7 @@ returns-3 : tie.Need-returns-3 Inv-loop μ-loop
 returns-3 c =
     let a = c .before .before .before .before .before .before .before .before .before .before .before in
     let l = c .before .before .before .before .before .loop in
-    let e = c .before .before .entered2 in
+    let e = c .before .before .mark-at2 in
     let d : length (a .args .text .now) ≤ l .k = omega arith in
     last-stops (a .args .graph .now) (a .args .text .now) (a .pre) (l .s) (l .k) (c .before .before .before .word5 .result) (c .before .word6 .result)
     (recorded (l .r .leaf) (l .r .end)) (recorded (e .result .leaf) (e .result .end)) _
@@ -123,7 +123,7 @@ word-requires-7 : tie.Need-word-requires-7 Inv-loop μ-loop
 word-requires-7 c κs =
     let a = c .before .before .before .before .before .before .before .before .before .before .before in
     let l = c .before .before .before .before .before .loop in
-    let e = c .before .before .entered2 in
+    let e = c .before .before .mark-at2 in
     let t = last-below (a .args .graph .now) (a .args .text .now) (a .pre) (l .s) (l .k) (c .before .before .before .word5 .result) (c .before .word6 .result)
     (recorded (l .r .leaf) (l .r .end)) (recorded (e .result .leaf) (e .result .end)) _
     (l .inv .0) (l .inv .4) (c .before .before .before .word5 .ensures .0) (e .ensures) (c .before .word6 .ensures .0) (c .if3 .left) in
@@ -136,7 +136,7 @@ returns-4 : tie.Need-returns-4 Inv-loop μ-loop
 returns-4 c =
     let a = c .before .before .before .before .before .before .before .before .before .before .before .before .before in
     let l = c .before .before .before .before .before .before .before .loop in
-    let e = c .before .before .before .before .entered2 in
+    let e = c .before .before .before .before .mark-at2 in
     let d : length (a .args .text .now) ≤ l .k = omega arith in
     c .accept-at-end .ensures ∙ last-goes (a .args .graph .now) (a .args .text .now) (a .pre) (l .s) (l .k) (c .before .before .before .before .before .word5 .result) (c .before .before .before .word6 .result)
     (recorded (l .r .leaf) (l .r .end)) (recorded (e .result .leaf) (e .result .end)) _
