@@ -4,7 +4,7 @@ use mathlib.Core.Bool.{Bool, true, false}
 use mathlib.Core.List.{List, [], _∷_, _++_}
 use Prim.Native.Nat.{ℕ, _+_, _≤_, _<_}
 use native.Mathlib.Omega.{arith}
-use borrow.Author.Tests.{ltb-true, lt-ltb}
+use borrow.Author.Tests.{ltb-true, ltb-false, lt-ltb}
 use lib.Dec.{eqb, ltb}
 use lib.ListN.{length, getD, length-append}
 use Rattle.lists.specs.Lists.{below, anyL, allL, those}
@@ -15,6 +15,7 @@ use Rattle.graph_rules.specs.Graph.{State, Graph, stateOf, graphFrom}
 use Rattle.graph_rules.proofs.Flat.{from-length}
 use Rattle.edges.specs.Edges.{leadsTo, targets}
 use Rattle.edges.proofs.ByTarget.{target-leads}
+use Rattle.plan_rules.specs.Plan.{base, byTable}
 use Rattle.plan_rows.specs.declared.fork.Fork.{Fork}
 use Rattle.plan_rows.specs.Fork.{forkIn, forkOf}
 
@@ -90,8 +91,8 @@ target-below n st i h =
 -- all of them met
 pub forked : (w : List ℕ) (s u : ℕ) {own : Bool} {count low high : ℕ}
     → Forking (leadsTo (stateOf (graphFrom w) s)) count low high u → u ≡ getD w 0 0 → s < getD w 0 0 → own ≡ leadsTo (stateOf (graphFrom w) s) s
-    → record { count = count; own = own; low = low; high = high } ≡ forkOf (graphFrom w) s
-unfolding forkOf forkIn targets
+    → record { count = count; table = ltb 2 count; own = own; low = low; high = high } ≡ forkOf (graphFrom w) s
+unfolding forkOf forkIn targets byTable
 forked w s u f e h o =
     let t = f .two in
     let st = stateOf (graphFrom w) s in
@@ -101,7 +102,7 @@ forked w s u f e h o =
     let b = o ∙ sym (target-leads st (length (graphFrom w .states)) s k) in
     let c = t .low-is ∙ ap (λ (m : ℕ). getD (those (leadsTo st) (below m)) 0 0) n in
     let d = t .high-is ∙ ap (λ (m : ℕ). getD (those (leadsTo st) (below m)) 1 0) n in
-    λ i. record { count = a i; own = b i; low = c i; high = d i }
+    λ i. record { count = a i; table = ltb 2 (a i); own = b i; low = c i; high = d i }
 
 -- ---- what the fork of a state says
 
@@ -112,6 +113,14 @@ module _ (g : Graph) (s : ℕ) {f : Fork} (is-fork : f ≡ forkOf g s) where
   pub fork-count : f .count ≡ length ts
   unfolding forkOf forkIn
   fork-count = ap (λ (x : Fork). x .count) is-fork
+
+  pub fork-table : f .table ≡ byTable base ts
+  unfolding forkOf forkIn
+  fork-table = ap (λ (x : Fork). x .table) is-fork
+
+  pub few-edges : f .table ≡ false → f .count ≤ 2
+  unfolding byTable
+  few-edges e = omega (arith, fork-count, ltb-false 2 (length ts) (sym fork-table ∙ e))
 
   pub fork-own : f .own ≡ anyL (eqb s) ts
   unfolding forkOf forkIn

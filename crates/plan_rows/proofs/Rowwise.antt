@@ -1,51 +1,48 @@
 -- Rows of three words, one after another: a buffer that is filled row by row, and a list that is compared with them. Assumes nothing.
-use mathlib.Core.Path.{_≡_, sym, ap, subst, _∙_}
-use mathlib.Core.Bool.{Bool, true, false, false≢true}
+use mathlib.Core.Path.{_≡_, sym, ap, transport, _∙_}
+use mathlib.Core.Bool.{true, false, false≢true}
 use mathlib.Core.List.{List, [], _∷_, _++_, flatMap, append-assoc, append-nil}
 use Prim.Native.Nat.{ℕ, zero, suc, _+_, _*_, _-_, _≤_, _<_}
 use native.Mathlib.Numerals.{add-one}
 use native.Mathlib.Omega.{arith}
-use borrow.Author.Tests.{eq-eqb, ne-eqb}
 use lib.Dec.{eqb}
-use lib.ListN.{length, getD, take, drop, set, length-append}
-use lib.Seq.{sets, drop-cons, drop-at, take-at, take-add, take-take}
+use lib.ListN.{length, getD, take, drop, set, length-append, length-drop}
+use lib.Seq.{sets, drop-at, take-at, take-add, take-take, take-suc, length-take-le, ext-getD, getD-take, getD-drop}
 use Rattle.lists.specs.Lists.{below, eqList}
 use Rattle.lists.proofs.Bools.{Is, is, yes-is, no-is}
-use Rattle.lists.proofs.Buffers.{Filled, filled-run}
+use Rattle.lists.proofs.Buffers.{Filled, filled-run, sets-append}
 use Rattle.lists.proofs.Elements.{eqb-sound, list-sound}
 use Rattle.lists.proofs.Members.{flatMap-one}
 use Rattle.lists.proofs.Those.{below-last}
 
--- ---- one row of a list
+-- ---- one row
 
-pub three-at : (l : List ℕ) (i : ℕ) → i + 3 ≤ length l → take 3 (drop i l) ≡ getD l i 0 ∷ getD l (i + 1) 0 ∷ getD l (i + 2) 0 ∷ []
-three-at l i h =
-    let a : suc i ≡ i + 1 = omega arith in
-    let b : suc (i + 1) ≡ i + 2 = omega arith in
-    ap (take 3) (drop-cons l i 0 (omega arith))
-    ∙ ap (λ (k : ℕ). getD l i 0 ∷ take 2 (drop k l)) a
-    ∙ ap (λ (x : List ℕ). getD l i 0 ∷ take 2 x) (drop-cons l (i + 1) 0 (omega arith))
-    ∙ ap (λ (k : ℕ). getD l i 0 ∷ getD l (i + 1) 0 ∷ take 1 (drop k l)) b
-    ∙ ap (λ (x : List ℕ). getD l i 0 ∷ getD l (i + 1) 0 ∷ take 1 x) (drop-cons l (i + 2) 0 (omega arith))
+-- one more of its words is written
+pub run-more : (out : List ℕ) (at : ℕ) (row : List ℕ) (i : ℕ) → i < length row → set (sets out at (take i row)) (at + i) (getD row i 0) ≡ sets out at (take (i + 1) row)
+run-more out at row i h =
+    let size : length (take i row) ≡ i = length-take-le i row (omega arith) in
+    rw (add-one i, take-suc row i 0 h, sets-append out at (take i row) (getD row i 0 ∷ []), size)
 
 -- it is compared word by word
-module _ (l : List ℕ) (i : ℕ) (room : i + 3 ≤ length l) (x y z : ℕ) where
-  row-same : (b : Bool) → b ≡ eqList eqb (getD l i 0 ∷ getD l (i + 1) 0 ∷ getD l (i + 2) 0 ∷ []) (x ∷ y ∷ z ∷ []) → b ≡ eqList eqb (take 3 (drop i l)) (x ∷ y ∷ z ∷ [])
-  row-same b e = e ∙ ap (λ (r : List ℕ). eqList eqb r (x ∷ y ∷ z ∷ [])) (sym (three-at l i room))
+module _ (l row : List ℕ) (at : ℕ) (room : at + length row ≤ length l) where
+  abbrev part : List ℕ
+  part = take (length row) (drop at l)
 
-  pub row-first : (getD l i 0 ≡ x → ⊥) → false ≡ eqList eqb (take 3 (drop i l)) (x ∷ y ∷ z ∷ [])
-  row-first n = row-same false (rw (ne-eqb (getD l i 0) x n, eqList))
+  part-at : (j : ℕ) → j < length row → getD part j 0 ≡ getD l (at + j) 0
+  part-at j h = getD-take (length row) (drop at l) j 0 h ∙ getD-drop at l j 0
 
-  module _ (e : getD l i 0 ≡ x) where
-    pub row-second : (getD l (i + 1) 0 ≡ y → ⊥) → false ≡ eqList eqb (take 3 (drop i l)) (x ∷ y ∷ z ∷ [])
-    row-second n = row-same false (rw (eq-eqb (getD l i 0) x e, eqList) (rw (ne-eqb (getD l (i + 1) 0) y n, eqList)))
+  pub row-differs : (j : ℕ) → j < length row → (getD l (at + j) 0 ≡ getD row j 0 → ⊥) → eqList eqb part row ≡ false
+  row-differs j h n = go (is (eqList eqb part row))
+    where
+      go : Is (eqList eqb part row) → eqList eqb part row ≡ false
+      go (no-is q) = q
+      go (yes-is q) = absurd (n (sym (part-at j h) ∙ ap (λ (r : List ℕ). getD r j 0) (list-sound eqb eqb-sound .eq part row q)))
 
-    pub row-third : getD l (i + 1) 0 ≡ y → eqb (getD l (i + 2) 0) z ≡ eqList eqb (take 3 (drop i l)) (x ∷ y ∷ z ∷ [])
-    row-third f = row-same (eqb (getD l (i + 2) 0) z) (rw (eq-eqb (getD l i 0) x e, eqList) (rw (eq-eqb (getD l (i + 1) 0) y f, eqList) (go (is (eqb (getD l (i + 2) 0) z)))))
-      where
-        go : Is (eqb (getD l (i + 2) 0) z) → eqb (getD l (i + 2) 0) z ≡ eqList eqb (getD l (i + 2) 0 ∷ []) (z ∷ [])
-        go (yes-is q) = rw (q, eqList)
-        go (no-is q) = rw (q, eqList)
+  pub row-same : ((j : ℕ) → j < length row → getD l (at + j) 0 ≡ getD row j 0) → eqList eqb part row ≡ true
+  row-same f =
+      let size : length part ≡ length row = length-take-le (length row) (drop at l) (omega (arith, length-drop at l)) in
+      let same : part ≡ row = ext-getD 0 part row size (λ j h. part-at j (omega arith) ∙ f j (omega arith)) in
+      ap (eqList eqb part) (sym same) ∙ list-sound eqb eqb-sound .self part
 
 -- ---- rows that a function gives
 
@@ -77,17 +74,13 @@ module _ (f : ℕ → List ℕ) (wide : (s : ℕ) → length (f s) ≡ 3) where
 
   -- ---- a buffer that is filled with them
 
-  pub filled-row : {found out : List ℕ} (s : ℕ) (a b c : ℕ) → Filled found (rowsTo f s) out → a ∷ b ∷ c ∷ [] ≡ f s → 3 * s + 3 ≤ length found
-      → Filled found (rowsTo f (s + 1)) (set (set (set out (3 * s) a) (3 * s + 1) b) (3 * s + 2) c)
-  filled-row {found} {out} s a b c filled e h =
-      let run : Filled found (rowsTo f s ++ (a ∷ b ∷ c ∷ [])) (sets out (3 * s) (a ∷ b ∷ c ∷ [])) =
-      filled-run (3 * s) (a ∷ b ∷ c ∷ []) filled (rows-length s) (omega arith)
-      in
-      let p : suc (3 * s) ≡ 3 * s + 1 = omega arith in
-      let q : suc (suc (3 * s)) ≡ 3 * s + 2 = omega arith in
-      let text : rowsTo f s ++ (a ∷ b ∷ c ∷ []) ≡ rowsTo f (s + 1) = ap (λ (l : List ℕ). rowsTo f s ++ l) e ∙ sym (rows-more f s) in
-      subst (λ (l : List ℕ). Filled found l (set (set (set out (3 * s) a) (3 * s + 1) b) (3 * s + 2) c)) text
-      (subst (λ (l : List ℕ). Filled found (rowsTo f s ++ (a ∷ b ∷ c ∷ [])) l) (λ i. set (set (set out (3 * s) a) (p i) b) (q i) c) run)
+  pub filled-row : {found out after row : List ℕ} (s : ℕ) → Filled found (rowsTo f s) out → row ≡ f s → 3 * s + 3 ≤ length found → after ≡ sets out (3 * s) row
+      → Filled found (rowsTo f (s + 1)) after
+  filled-row {found} {out} s filled e h is =
+      let run = filled-run (3 * s) (f s) filled (rows-length s) (omega (arith, wide s)) in
+      let made = is ∙ ap (sets out (3 * s)) e in
+      let text = rows-more f s in
+      transport (λ i. Filled found (sym text i) (sym made i)) run
 
   pub filled-rows : {found out : List ℕ} (s n : ℕ) → Filled found (rowsTo f s) out → s ≡ n → out ≡ rowsTo f n ++ drop (n * 3) found
   filled-rows {found} {out} s n filled e =

@@ -5,11 +5,11 @@ use mathlib.Core.List.{List, [], _∷_, _++_, flatMap, append-nil, append-assoc}
 use Prim.Native.Nat.{ℕ, zero, suc, _+_, _-_, _≤_, _<_}
 use native.Mathlib.Numerals.{add-one}
 use native.Mathlib.Omega.{arith}
-use borrow.Author.Tests.{lt-ltb, eq-eqb}
+use borrow.Author.Tests.{eq-eqb}
 use lib.Dec.{eqb}
 use lib.ListN.{length, getD}
 use Rattle.lists.specs.Lists.{anyL, allL}
-use Rattle.lists.proofs.Bools.{and-both, and-intro, Order, less, equal, more, order}
+use Rattle.lists.proofs.Bools.{and-intro, Order, less, equal, more, order}
 use Rattle.graph_rules.specs.Graph.{State, Graph, stateOf, graphFrom, graphFits}
 use Rattle.graph_rules.proofs.Flat.{from-length, from-width}
 use Rattle.graph_rules.proofs.Taken.{taken-long}
@@ -20,13 +20,15 @@ use Rattle.mask_store.specs.declared.MaskStore.{MaskStore}
 use Rattle.mask_store.specs.Masks.{grown, allowed, takes}
 use Rattle.mask_store.proofs.Growth.{whole}
 use Rattle.mask_store.proofs.Several.{takes-allowed}
-use Rattle.plan_rules.specs.Plan.{base, Way, bySelf, byTests, byMask, byTable, masked, wayTo, selfNeeds, edgeNeeds, stateNeeds, needs}
+use Rattle.plan_rules.specs.declared.Way.{Way}
+use Rattle.plan_rules.specs.declared.Way.the-variants.{BySelf, ByTests, ByMask}
+use Rattle.plan_rules.specs.Plan.{base, byTable, masked, wayTo, selfNeeds, edgeNeeds, stateNeeds, needs}
 use Rattle.plan_rules.proofs.Lists.{append-all}
 use Rattle.plan_rows.specs.declared.needs.Grown.{Grown}
 use Rattle.plan_rows.specs.Needs.{grownBy}
 use Rattle.plan_rows.specs.declared.fork.Fork.{Fork}
 use Rattle.plan_rows.specs.Fork.{forkOf}
-use Rattle.plan_rows.proofs.Forks.{fork-count, fork-own, fork-low, fork-high}
+use Rattle.plan_rows.proofs.Forks.{fork-count, fork-table, fork-own, fork-low, fork-high}
 use Rattle.plan_rows.proofs.Rowwise.{rowsTo, rows-more, rows-front}
 use Rattle.plan_rows.proofs.Growing.{tookAll, asFound, was-taken, store-grown, by-taken, takes-none, grown-nothing, then-taken, then-refused}
 
@@ -44,9 +46,9 @@ module _ (w : List ℕ) (fits : graphFits w ≡ true) (s : ℕ) (h : s < getD w 
   own-whole false = refl
 
   pub way-whole : (way : Way) (u : ℕ) → allL whole (masked way (classTo st u)) ≡ true
-  way-whole bySelf u = refl
-  way-whole byTests u = refl
-  way-whole byMask u = and-intro _ _ (edge-whole u) refl
+  way-whole BySelf u = refl
+  way-whole ByTests u = refl
+  way-whole ByMask u = and-intro _ _ (edge-whole u) refl
 
   ways-whole : (ts : List ℕ) → allL whole (flatMap (λ u. masked (wayTo base st s u) (classTo st u)) ts) ≡ true
   unfolding flatMap
@@ -84,12 +86,9 @@ module _ (st : State) (s : ℕ) where
   abbrev edge : ℕ → List Class
   edge u = masked (wayTo base st s u) (classTo st u)
 
-  pub by-way : (store : MaskStore) (u : ℕ) {way : Way} → wayTo base st s u ≡ way → grownBy store (masked way (classTo st u)) ≡ grownBy store (edge u)
-  by-way store u e = ap (λ (way : Way). grownBy store (masked way (classTo st u))) (sym e)
-
-  edges-table : (ts : List ℕ) → 2 < length ts → edgeNeeds base st s ts ≡ []
-  unfolding edgeNeeds byTable
-  edges-table ts h = rw (lt-ltb 2 (length ts) h)
+  edges-table : (ts : List ℕ) → byTable base ts ≡ true → edgeNeeds base st s ts ≡ []
+  unfolding edgeNeeds
+  edges-table ts h = rw h
 
   edges-none : (ts : List ℕ) → length ts ≡ 0 → edgeNeeds base st s ts ≡ []
   unfolding edgeNeeds byTable flatMap
@@ -132,8 +131,8 @@ module _ (g : Graph) (s : ℕ) {f : Fork} (is-fork : f ≡ forkOf g s) where
   by-edges : (l : List Class) → edgeNeeds base from s ts ≡ l → own ++ l ≡ stateNeeds base g s
   by-edges l e = ap (λ (x : List Class). own ++ x) (sym e) ∙ state-own
 
-  pub state-table : 2 < f .count → own ≡ stateNeeds base g s
-  state-table h = sym (append-nil own) ∙ by-edges [] (edges-table from s ts (omega (arith, fork-count g s is-fork)))
+  pub state-table : f .table ≡ true → own ≡ stateNeeds base g s
+  state-table h = sym (append-nil own) ∙ by-edges [] (edges-table from s ts (sym (fork-table g s is-fork) ∙ h))
 
   pub state-none : f .count ≡ 0 → own ≡ stateNeeds base g s
   state-none e = sym (append-nil own) ∙ by-edges [] (edges-none from s ts (omega (arith, fork-count g s is-fork)))

@@ -4,5 +4,7 @@
 // They are defined in crates/plan_rules; here are the functions that make them from the words of a graph that 12 takes.
 
 pub mod fork;
+pub mod layout;
 pub mod needs;
 pub mod rows;
+pub mod way;

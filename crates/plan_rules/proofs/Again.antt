@@ -19,7 +19,9 @@ use Rattle.mask_store.proofs.Numbers.{number-own, number-stays, met-all, met-ha
 use Rattle.mask_store.proofs.MaskLaws.{length-held, held-at}
 use Rattle.mask_store.proofs.Growth.{grown-none}
 use Rattle.edges.specs.Edges.{classTo, targets}
-use Rattle.plan_rules.specs.Plan.{Settings, Sane, Way, bySelf, byTests, byMask, byTable, wayTo, masked, selfNeeds, edgeNeeds, stateNeeds, needs, selfWord, wayWord, edgeWords, planRow, planWords, planOf, holdsPlan, planSize}
+use Rattle.plan_rules.specs.declared.Way.{Way}
+use Rattle.plan_rules.specs.declared.Way.the-variants.{BySelf, ByTests, ByMask}
+use Rattle.plan_rules.specs.Plan.{Settings, Sane, byTable, wayTo, masked, selfNeeds, edgeNeeds, stateNeeds, needs, selfWord, wayWord, edgeWords, planRow, planWords, planOf, holdsPlan, planSize}
 use Rattle.plan_rules.specs.Run.{edgeHeld, rowHeld, rowsOf, isPlan}
 use Rattle.plan_rules.proofs.Lists.{all-append, append-all, all-replicate, all-weaker, flat-same, flat-all, flat-map}
 use Rattle.plan_rules.proofs.RunIsWalk.{length-planWords, rows-are}
@@ -39,14 +41,14 @@ module _ (set : Settings) (a b : List Class) (count : ℕ) where
   alike-below c h = ltb-true _ _ (and-both (eqb (numberOf a c) (numberOf b c)) _ (and-both (alike c) _ h .0) .1)
 
   way-same : (w : Way) (c : Class) → allL alike (masked w c) ≡ true → wayWord a w c ≡ wayWord b w c
-  way-same bySelf c h = refl
-  way-same byTests c h = refl
-  way-same byMask c h = ap (λ (n : ℕ). suc (suc n)) (alike-number c h)
+  way-same BySelf c h = refl
+  way-same ByTests c h = refl
+  way-same ByMask c h = ap (λ (n : ℕ). suc (suc n)) (alike-number c h)
 
   way-held : (w : Way) (c : Class) → allL alike (masked w c) ≡ true → edgeHeld count (wayWord a w c) ≡ true
-  way-held bySelf c h = or-left _ _ (lt-ltb 0 (2 + count) (omega arith))
-  way-held byTests c h = or-left _ _ (lt-ltb 1 (2 + count) (omega arith))
-  way-held byMask c h = or-left _ _ (lt-ltb _ (2 + count) (let l = alike-below c h in omega arith))
+  way-held BySelf c h = or-left _ _ (lt-ltb 0 (2 + count) (omega arith))
+  way-held ByTests c h = or-left _ _ (lt-ltb 1 (2 + count) (omega arith))
+  way-held ByMask c h = or-left _ _ (lt-ltb _ (2 + count) (let l = alike-below c h in omega arith))
 
   module _ (st : State) (s : ℕ) (ts : List ℕ) where
     self-same : allL alike (selfNeeds st s ts) ≡ true → selfWord a st s ts ≡ selfWord b st s ts

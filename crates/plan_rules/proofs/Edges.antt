@@ -21,7 +21,9 @@ use Rattle.mask_store.proofs.Numbers.{number-most}
 use Rattle.mask_store.proofs.MaskLaws.{mask-class, held-number}
 use Rattle.edges.specs.Edges.{bytesOf, classTo, targets}
 use Rattle.edges.proofs.ByTarget.{class-flag, byte-leads, target-leads}
-use Rattle.plan_rules.specs.Plan.{Settings, Sane, Way, bySelf, byTests, byMask, byTable, wayTo, selfWord, wayWord, edgeWords, planRow}
+use Rattle.plan_rules.specs.declared.Way.{Way}
+use Rattle.plan_rules.specs.declared.Way.the-variants.{BySelf, ByTests, ByMask}
+use Rattle.plan_rules.specs.Plan.{Settings, Sane, byTable, wayTo, selfWord, wayWord, edgeWords, planRow}
 use Rattle.plan_rules.specs.Run.{selfOf, saysTable, selfTakes, edgeTakes, along, ledBy, edgeHeld, rowHeld}
 use Rattle.plan_rules.proofs.Lists.{option-ne, isMember, all-mapped}
 
@@ -49,9 +51,9 @@ module _ (store : MaskStore) (cs : List Class) where
 
     -- an edge's word is small
     word-small : (w : Way) (c : Class) → wayWord all w c < 65535
-    word-small bySelf c = omega arith
-    word-small byTests c = omega arith
-    word-small byMask c = let h : numberOf all c ≤ length all = number-most all c in omega arith
+    word-small BySelf c = omega arith
+    word-small ByTests c = omega arith
+    word-small ByMask c = let h : numberOf all c ≤ length all = number-most all c in omega arith
 
     module _ (b : ℕ) (byte : b < 256) where
       abbrev o : Option ℕ

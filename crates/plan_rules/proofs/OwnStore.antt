@@ -17,7 +17,9 @@ use Rattle.mask_store.specs.Masks.{among, heldWith, grown, allowed, takes}
 use Rattle.mask_store.proofs.Growth.{whole, given-held, all-given, grown-allowed}
 use Rattle.edges.specs.Edges.{classTo, targets}
 use Rattle.edges.proofs.ByTarget.{class-whole}
-use Rattle.plan_rules.specs.Plan.{Settings, Way, bySelf, byTests, byMask, byTable, wayTo, masked, selfNeeds, edgeNeeds, stateNeeds, needs, holdsPlan}
+use Rattle.plan_rules.specs.declared.Way.{Way}
+use Rattle.plan_rules.specs.declared.Way.the-variants.{BySelf, ByTests, ByMask}
+use Rattle.plan_rules.specs.Plan.{Settings, byTable, wayTo, masked, selfNeeds, edgeNeeds, stateNeeds, needs, holdsPlan}
 use Rattle.plan_rules.proofs.Lists.{append-all, all-flat, all-flat-tab}
 use Rattle.plan_rules.proofs.Legal.{legal-width}
 use Rattle.plan_rules.proofs.Holding.{HeldAs, holds-shown}
@@ -29,9 +31,9 @@ module _ (set : Settings) (st : State) (width : length (st .steps) ≡ 257) wher
   one-whole u = and-intro (whole (classTo st u)) _ (eq-eqb _ 256 (class-whole st (omega arith) u)) refl
 
   masked-whole : (w : Way) (u : ℕ) → allL whole (masked w (classTo st u)) ≡ true
-  masked-whole bySelf u = refl
-  masked-whole byTests u = refl
-  masked-whole byMask u = one-whole u
+  masked-whole BySelf u = refl
+  masked-whole ByTests u = refl
+  masked-whole ByMask u = one-whole u
 
   self-whole : (s : ℕ) (ts : List ℕ) → allL whole (selfNeeds st s ts) ≡ true
   unfolding selfNeeds

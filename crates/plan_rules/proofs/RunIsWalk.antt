@@ -8,7 +8,7 @@ use mathlib.Core.Logic.{_⊎_, inl, inr}
 use Prim.Native.Nat.{ℕ, suc, _-_, _*_, _≤_, _<_}
 use native.Mathlib.Omega.{arith}
 use borrow.Author.Tests.{leb-true, ltb-false}
-use lib.Dec.{eqb, ltb}
+use lib.Dec.{eqb}
 use lib.ListN.{length, getD, take, drop, replicate, length-append, length-map, length-replicate, take-append-drop}
 use Rattle.lists.specs.Lists.{below, allL, eqOption, eqList, pieces}
 use Rattle.lists.proofs.Elements.{length-tab, getD-tab0, map-at, all-at, eqb-sound, option-sound, list-sound}

@@ -19,7 +19,7 @@ use Rattle.mask_store.specs.Masks.{maskHas}
 use Rattle.edges.specs.Edges.{classTo, targets, leadsTo}
 use Rattle.plan_rules.specs.Plan.{base}
 use Rattle.plan_rules.specs.Run.{edgeTakes, along, ledBy, rowsOf}
-use Rattle.runner.specs.Prepared.{targetsOf, testsAt, Prepared, PlanOn}
+use Rattle.runner.specs.Prepared.{targetsOf, testsAt, edgeAt, Prepared, PlanOn}
 use Rattle.runner.proofs.PlanRow.{led-table, led-edges, edge-absent, edge-few, edge-compared}
 
 -- ---- along the first two edges of a state, where an edge that is not there has the word 0
@@ -91,27 +91,26 @@ module _ (g : Graph) (words : List ℕ) (p : PlanOn g words) (s : ℕ) (h : s < 
   takes j = edgeTakes tables (stateOf g s) (getD ts j 0) (getD words (3 * s + suc j) 0) b
 
   -- a test by the plan's word w, with the comparisons at e
-  pub tested : (j w e : ℕ) (t : Bool) → j < 2 → w ≡ getD words (3 * s + suc j) 0 → e ≡ 2 * s + j
+  pub tested : (j w e : ℕ) (t : Bool) → j < 2 → w ≡ getD words (3 * s + suc j) 0 → e ≡ edgeAt s j
       → ((st : State) → (u : ℕ) → (w ≡ 1 → testsAt tests e ≡ comparisons (classTo st u)) → t ≡ edgeTakes tables st u w b) → t ≡ takes j
   tested j w e t l ew ee f =
       f (stateOf g s) (getD ts j 0) (λ z. ap (testsAt tests) ee ∙ edge-compared g words p s h plain ends tests made j l (sym ew ∙ z))
       ∙ ap (λ (x : ℕ). edgeTakes tables (stateOf g s) (getD ts j 0) x b) ew
 
   module _ (few : length (g .states) ≤ 1024) (r : ℕ) where
-    led-to : (j : ℕ) → j < 2 → r ≡ getD ends (2 * s + j) 0 → ledBy g row tables s b ≡ some (getD ts j 0)
+    led-to : (j : ℕ) → j < 2 → r ≡ getD ends (edgeAt s j) 0 → ledBy g row tables s b ≡ some (getD ts j 0)
         → (orNone 65535 r ≡ ledBy g row tables s b) × (r < length (g .states))
     led-to j l e k =
         let z : r ≡ getD ts j 0 = e ∙ made .ends-are s j h l in
         let q : r < length (g .states) = subst (λ (x : ℕ). x < length (g .states)) (sym z) (target-below g s j (omega arith)) in
         (or-number 65535 r (λ x. omega arith) ∙ ap {B = Option ℕ} some z ∙ sym k, q)
 
-    pub led-first : takes 0 ≡ true → r ≡ getD ends (2 * s) 0 → (orNone 65535 r ≡ ledBy g row tables s b) × (r < length (g .states))
+    pub led-first : takes 0 ≡ true → r ≡ getD ends (edgeAt s 0) 0 → (orNone 65535 r ≡ ledBy g row tables s b) × (r < length (g .states))
     led-first t e =
-        let z : 2 * s ≡ 2 * s + 0 = omega arith in
-        led-to 0 (omega arith) (e ∙ ap (λ (x : ℕ). getD ends x 0) z)
+        led-to 0 (omega arith) e
         (led-edges g words p s h plain tables b ∙ along-first tables (stateOf g s) b ts _ (getD words (3 * s + 2) 0) (edge-absent g words p s h plain 0 (omega arith)) t)
 
-    pub led-second : takes 0 ≡ false → takes 1 ≡ true → r ≡ getD ends (2 * s + 1) 0 → (orNone 65535 r ≡ ledBy g row tables s b) × (r < length (g .states))
+    pub led-second : takes 0 ≡ false → takes 1 ≡ true → r ≡ getD ends (edgeAt s 1) 0 → (orNone 65535 r ≡ ledBy g row tables s b) × (r < length (g .states))
     led-second f t e =
         led-to 1 (omega arith) e (led-edges g words p s h plain tables b ∙ along-second tables (stateOf g s) b ts _ _ (edge-absent g words p s h plain 1 (omega arith)) f t)
 
@@ -151,20 +150,26 @@ module _ (graph words ends tests tables : List ℕ) (legal : graphFits graph ≡
       pub second-few : (v : ℕ) → v ≡ getD words (3 * s + 2) 0 → v < 66
       second-few v ev = subst (λ (y : ℕ). y < 66) (sym ev) (edge-few (graphFrom graph) words p s inside plain 1 (omega arith))
 
-      module _ (t : Bool) (ft : (st : State) → (u : ℕ) → (w ≡ 1 → testsAt tests (2 * s) ≡ comparisons (classTo st u)) → t ≡ edgeTakes tables st u w b) where
+      -- the first edge stands at e
+      module _ {e : ℕ} (ee : e ≡ edgeAt s 0) (t : Bool)
+          (ft : (st : State) → (u : ℕ) → (w ≡ 1 → testsAt tests e ≡ comparisons (classTo st u)) → t ≡ edgeTakes tables st u w b) where
         first-is : t ≡ takes (graphFrom graph) words p s inside plain ends tests made tables b 0
-        first-is = tested (graphFrom graph) words p s inside plain ends tests made tables b 0 w (2 * s) t (omega arith) ew (omega arith) ft
+        first-is = tested (graphFrom graph) words p s inside plain ends tests made tables b 0 w e t (omega arith) ew ee ft
 
-        pub by-first : (r : ℕ) → t ≡ true → r ≡ getD ends (2 * s) 0 → Leads r
-        by-first r e er = below r (led-first (graphFrom graph) words p s inside plain ends tests made tables b few r (sym first-is ∙ e) er)
+        pub by-first : (r : ℕ) → t ≡ true → r ≡ getD ends e 0 → Leads r
+        by-first r q er =
+            below r (led-first (graphFrom graph) words p s inside plain ends tests made tables b few r (sym first-is ∙ q) (er ∙ ap (λ (x : ℕ). getD ends x 0) ee))
 
-        module _ (no : t ≡ false) (v : ℕ) (ev : v ≡ getD words (3 * s + 2) 0) (x : Bool)
-            (fx : (st : State) → (u : ℕ) → (v ≡ 1 → testsAt tests (2 * s + 1) ≡ comparisons (classTo st u)) → x ≡ edgeTakes tables st u v b) where
+        -- the second at f
+        module _ (no : t ≡ false) (v : ℕ) (ev : v ≡ getD words (3 * s + 2) 0) {f : ℕ} (ef : f ≡ edgeAt s 1) (x : Bool)
+            (fx : (st : State) → (u : ℕ) → (v ≡ 1 → testsAt tests f ≡ comparisons (classTo st u)) → x ≡ edgeTakes tables st u v b) where
           second-is : x ≡ takes (graphFrom graph) words p s inside plain ends tests made tables b 1
-          second-is = tested (graphFrom graph) words p s inside plain ends tests made tables b 1 v (2 * s + 1) x (omega arith) ev refl fx
+          second-is = tested (graphFrom graph) words p s inside plain ends tests made tables b 1 v f x (omega arith) ev ef fx
 
-          pub by-second : (r : ℕ) → x ≡ true → r ≡ getD ends (2 * s + 1) 0 → Leads r
-          by-second r e er = below r (led-second (graphFrom graph) words p s inside plain ends tests made tables b few r (sym first-is ∙ no) (sym second-is ∙ e) er)
+          pub by-second : (r : ℕ) → x ≡ true → r ≡ getD ends f 0 → Leads r
+          by-second r q er =
+              below r
+              (led-second (graphFrom graph) words p s inside plain ends tests made tables b few r (sym first-is ∙ no) (sym second-is ∙ q) (er ∙ ap (λ (x : ℕ). getD ends x 0) ef))
 
           pub by-none : x ≡ false → Leads 65535
-          by-none e = (sym (led-nowhere (graphFrom graph) words p s inside plain ends tests made tables b (sym first-is ∙ no) (sym second-is ∙ e)), λ n. absurd (n refl))
+          by-none q = (sym (led-nowhere (graphFrom graph) words p s inside plain ends tests made tables b (sym first-is ∙ no) (sym second-is ∙ q)), λ n. absurd (n refl))

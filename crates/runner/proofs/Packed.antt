@@ -4,14 +4,21 @@ use mathlib.Core.Bool.{Bool, true, false, _&&_, _||_}
 use mathlib.Core.List.{List, [], _∷_, _++_, append-assoc}
 use Prim.Native.Nat.{ℕ, suc, _+_, _*_, _-_, _≤_, _<_}
 use native.Mathlib.Omega.{arith}
-use native.Mathlib.Numerals.{add-one}
+use borrow.Author.Tests.{ltb-false}
+use lib.Dec.{eqb, ltb}
 use lib.ListN.{length, getD, take, drop, set, length-take, length-drop}
-use lib.Seq.{sets, sets-eq, length-sets, length-take-le, ext-getD, getD-take, getD-drop, getD-set-other, drop-append-add, getD-at, take-suc, drop-cons}
-use Rattle.lists.proofs.Buffers.{sets-append}
+use lib.Seq.{sets, sets-eq, length-sets, length-take-le, ext-getD, getD-take, getD-drop, getD-set-other, drop-append-add, getD-at, drop-cons}
+use Rattle.lists.proofs.Bools.{Is, yes-is, no-is, is}
 use Rattle.classes.specs.Classes.{Class, inside, someHolds, comparisons, cost}
 use Rattle.classes.specs.ClassAnswers.{listed, asComparisons}
 use Rattle.classes.specs.declared.byte_class.Comparisons.{Comparisons}
 use Rattle.classes.proofs.Few.{few-comparisons, few-exceptions, laid-long, listed-front}
+use Rattle.graph_rules.specs.Graph.{State}
+use Rattle.edges.specs.Edges.{classTo}
+use Rattle.plan_rules.specs.declared.Way.{Way}
+use Rattle.plan_rules.specs.declared.Way.the-variants.{BySelf, ByTests, ByMask}
+use Rattle.plan_rules.specs.Plan.{base, wayTo}
+use Rattle.plan_rows.specs.declared.fork.Fork.{Fork}
 use Rattle.runner.specs.Prepared.{testsAt}
 
 -- read by its parts, from one place to another
@@ -38,15 +45,6 @@ one-holds tests e b long one none =
     and-or : (x : Bool) → x ≡ ((x && true) || false)
     and-or true = refl
     and-or false = refl
-
--- ---- bytes that are written one after another
-
--- one more of them
-pub run-more : (tests : List ℕ) (at : ℕ) (bytes : List ℕ) (i : ℕ) → i < length bytes
-    → set (sets tests at (take i bytes)) (at + i) (getD bytes i 0) ≡ sets tests at (take (i + 1) bytes)
-run-more tests at bytes i h =
-    let size : length (take i bytes) ≡ i = length-take-le i bytes (omega arith) in
-    rw (add-one i, take-suc bytes i 0 h, sets-append tests at (take i bytes) (getD bytes i 0 ∷ []), size)
 
 -- ---- those of other edges
 
@@ -111,20 +109,32 @@ module _ (tests : List ℕ) (e : ℕ) (room : 12 * e + 12 ≤ length tests) (c :
       (rw (← front-three (laid .first) (omega arith), ← front-three (laid .last) (omega arith), ← front-three (laid .holes) (omega arith), ← front-two (laid .except) (omega arith))
       (listed-front (comparisons c) same 3 2 (omega (arith, few-comparisons c)) (omega (arith, few-exceptions c))))
 
--- ---- what the step for edge j of `count`, which stands at e, leaves: its own comparisons where they are few, and those of all others
+-- ---- a class that is tested by comparisons costs little
 
-abbrev pub Edge : List ℕ → ℕ → ℕ → ℕ → Class → List ℕ → Type 0
-Edge tests e j count c after =
-    (j < count → count ≤ 2 → cost c ≤ 2 → testsAt after e ≡ comparisons c)
+tests-cheap : (st : State) (s u : ℕ) → wayTo base st s u ≡ ByTests → cost (classTo st u) ≤ base .cost
+unfolding wayTo
+tests-cheap st s u e = go (is (eqb u s)) (is (ltb 2 (cost (classTo st u))))
+  where
+    go : Is (eqb u s) → Is (ltb 2 (cost (classTo st u))) → cost (classTo st u) ≤ 2
+    go x (no-is y) = ltb-false _ _ y
+    go (yes-is x) (yes-is y) = let q : BySelf ≡ ByTests = rw x at e in let z : _≡_ {A = ℕ} 0 1 = cc in absurd (omega arith)
+    go (no-is x) (yes-is y) = let q : ByMask ≡ ByTests = rw (x, y) at e in let z : _≡_ {A = ℕ} 0 1 = cc in absurd (omega arith)
+
+-- ---- what the step for edge j of a fork, which stands at e, leaves: its own comparisons if it is tested by them, and those of all others
+
+abbrev pub Edge : List ℕ → ℕ → ℕ → Fork → Way → Class → List ℕ → Type 0
+Edge tests e j fork way c after =
+    (j < fork .count → fork .table ≡ false → way ≡ ByTests → testsAt after e ≡ comparisons c)
     × (((i : ℕ) → (i ≡ e → ⊥) → testsAt after i ≡ testsAt tests i) × (length after ≡ 24576))
 
-module _ (tests : List ℕ) (e j count : ℕ) (c : Class) (size : length tests ≡ 24576) where
-  pub edge-left : (j < count → count ≤ 2 → cost c ≤ 2 → ⊥) → Edge tests e j count c tests
-  edge-left n = (λ a b h. absurd (n a b h), (λ i k. refl, size))
+module _ (tests : List ℕ) (e j : ℕ) (fork : Fork) (size : length tests ≡ 24576) where
+  pub edge-left : (way : Way) (c : Class) → (j < fork .count → fork .table ≡ false → way ≡ ByTests → ⊥) → Edge tests e j fork way c tests
+  edge-left way c n = (λ a b h. absurd (n a b h), (λ i k. refl, size))
 
   -- the class as it is read
-  pub edge-written : {class : Class} {laid : Comparisons} {bytes after : List ℕ} → e < 2048 → class ≡ c → cost class ≤ 2 → laid ≡ asComparisons (comparisons class)
-      → bytes ≡ bytesOf laid → after ≡ sets tests (12 * e) bytes → Edge tests e j count c after
-  edge-written {class} {laid} h is small same b a =
-      rw (a, b, ← is)
+  pub edge-written : (st : State) (s u : ℕ) {class : Class} {laid : Comparisons} {bytes after : List ℕ} → e < 2048 → class ≡ classTo st u → wayTo base st s u ≡ ByTests
+      → laid ≡ asComparisons (comparisons class) → bytes ≡ bytesOf laid → after ≡ sets tests (12 * e) bytes → Edge tests e j fork (wayTo base st s u) (classTo st u) after
+  edge-written st s u {class} {laid} h read way same b a =
+      let small : cost class ≤ base .cost = rw read (tests-cheap st s u way) in
+      rw (a, b, ← read)
       (λ x y z. written-own tests e (omega arith) class small same, (written-others tests e (bytesOf laid) refl, length-sets tests (12 * e) (bytesOf laid) ∙ size))

@@ -6,19 +6,21 @@ use mathlib.Core.Logic.{_⊎_, inl, inr}
 use Prim.Native.Nat.{ℕ, zero, suc, _+_, _-_, _*_, _≤_, _<_}
 use native.Mathlib.Omega.{arith}
 use native.Mathlib.Nat.{not-suc-le-zero, le-of-suc-le-suc}
-use borrow.Author.Tests.{eqb-true, eq-eqb, ne-eqb, leb-true, ltb-true, ltb-false}
+use borrow.Author.Tests.{eqb-true, eq-eqb, ne-eqb, leb-true, ltb-true}
 use lib.Dec.{eqb, leb, ltb}
 use lib.Seq.{getD-drop}
 use lib.ListN.{length, getD, drop, replicate, take-append-drop}
 use Rattle.lists.proofs.Bools.{Is, yes-is, no-is, is, and-both, or-cases, lt-or-le}
 use Rattle.lists.proofs.Elements.{all-at}
 use Rattle.lists.proofs.Pieces.{pieces-length, pieces-at}
-use Rattle.graph_rules.specs.Graph.{State, Graph, stateOf, to}
-use Rattle.classes.specs.Classes.{Class, comparisons, cost}
+use Rattle.graph_rules.specs.Graph.{Graph, stateOf, to}
+use Rattle.classes.specs.Classes.{Class, comparisons}
 use Rattle.mask_store.specs.Masks.{numberOf}
 use Rattle.mask_store.proofs.Numbers.{number-most}
 use Rattle.edges.specs.Edges.{classTo}
-use Rattle.plan_rules.specs.Plan.{Way, bySelf, byTests, byMask, base, byTable, wayTo, wayWord, edgeWords, planRow, planSize}
+use Rattle.plan_rules.specs.declared.Way.{Way}
+use Rattle.plan_rules.specs.declared.Way.the-variants.{BySelf, ByTests, ByMask}
+use Rattle.plan_rules.specs.Plan.{base, byTable, wayTo, wayWord, edgeWords, planRow, planSize}
 use Rattle.plan_rules.specs.Run.{selfOf, saysTable, along, ledBy, edgeHeld, rowHeld, rowsOf}
 use Rattle.plan_rules.proofs.RunIsWalk.{base-sane, row-length, row-at, rows-are}
 use Rattle.runner.specs.Prepared.{targetsOf, testsAt, Prepared, PlanOn}
@@ -49,24 +51,14 @@ module _ (f : ℕ → ℕ) (m : ℕ) where
 
 -- what an edge's word says
 few-way : (all : List Class) (w : Way) (c : Class) → length all ≤ 64 → wayWord all w c < 65535
-few-way all bySelf c l = omega arith
-few-way all byTests c l = omega arith
-few-way all byMask c l = let h : numberOf all c ≤ length all = number-most all c in omega arith
+few-way all BySelf c l = omega arith
+few-way all ByTests c l = omega arith
+few-way all ByMask c l = let h : numberOf all c ≤ length all = number-most all c in omega arith
 
-one-cost : (all : List Class) (st : State) (s u : ℕ) → wayWord all (wayTo base st s u) (classTo st u) ≡ 1 → cost (classTo st u) ≤ 2
-unfolding wayTo
-one-cost all st s u e = go (is (eqb u s)) (is (ltb 2 (cost (classTo st u))))
-  where
-    go : Is (eqb u s) → Is (ltb 2 (cost (classTo st u))) → cost (classTo st u) ≤ 2
-    go (yes-is q) x = absurd (zero-one (rw q at e))
-      where
-        zero-one : _≡_ {A = ℕ} 0 1 → ⊥
-        zero-one e = omega arith
-    go (no-is q) (yes-is x) = absurd (two-one _ (rw (q, x) at e))
-      where
-        two-one : (n : ℕ) → suc (suc n) ≡ 1 → ⊥
-        two-one n e = omega arith
-    go (no-is q) (no-is x) = ltb-false _ _ x
+one-tests : (all : List Class) (w : Way) (c : Class) → wayWord all w c ≡ 1 → w ≡ ByTests
+one-tests all BySelf c e = absurd (omega arith)
+one-tests all ByTests c e = refl
+one-tests all ByMask c e = absurd (omega arith)
 
 module _ (g : Graph) (words : List ℕ) (p : PlanOn g words) (s : ℕ) (h : s < length (g .states)) where
   abbrev row : List ℕ
@@ -168,5 +160,5 @@ module _ (g : Graph) (words : List ℕ) (p : PlanOn g words) (s : ℕ) (h : s < 
           go : (j < length ts) ⊎ (length ts ≤ j) → testsAt tests (2 * s + j) ≡ comparisons (classTo (stateOf g s) (getD ts j 0))
           go (inl a) =
               made .tests-are s j h l no-table a
-              (one-cost (p .all) (stateOf g s) s (getD ts j 0) (sym (padded-in word (2 - length ts) ts j a) ∙ sym (edge-word j l) ∙ e))
+              (one-tests (p .all) (wayTo base (stateOf g s) s (getD ts j 0)) (classTo (stateOf g s) (getD ts j 0)) (sym (padded-in word (2 - length ts) ts j a) ∙ sym (edge-word j l) ∙ e))
           go (inr a) = let z = edge-absent j l a in absurd (omega arith)

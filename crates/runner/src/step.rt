@@ -8,9 +8,11 @@ ghost use lib.ListN.{length, getD};
 ghost use Rattle.graph_rules.specs.Graph.{State, graphFits, graphFrom, orNone};
 ghost use Rattle.classes.specs.Classes.{comparisons};
 ghost use Rattle.edges.specs.Edges.{classTo};
-ghost use Rattle.plan_rules.specs.Plan.{base};
+ghost use Rattle.plan_rules.specs.Plan.{base, ownPlace};
 ghost use Rattle.plan_rules.specs.Run.{edgeTakes, ledBy, rowsOf};
 ghost use Rattle.runner.specs.Prepared.{testsAt, Prepared, PlanOn};
+use crate::prepare::edge_place;
+use plan_rows::layout;
 
 // Whether the test that plan word w names, of the edge whose comparisons stand at e, takes the byte.
 fn edge_takes(tables: &[u8; 2048], tests: &[u8], w: usize, e: usize, byte: u8) -> bool
@@ -39,20 +41,22 @@ pub(crate) fn step(
     requires { ⌜ graphFits (now graph) ≡ true ⌝ }
     requires { ⌜ PlanOn (graphFrom (now graph)) (now plan) ⌝ }
     requires { ⌜ (length (now ends) ≡ 2048) × ((length (now tests) ≡ 24576) × Prepared (graphFrom (now graph)) (now ends) (now tests)) ⌝ }
-    requires { ⌜ (s < getD (now graph) 0 0) × (getD (now graph) 0 0 ≤ 1024) × (2 + 258 * getD (now graph) 0 0 ≤ length (now graph)) × (3 * getD (now graph) 0 0 ≤ length (now plan)) ⌝ }
+    requires { ⌜ (s < getD (now graph) 0 0) × (getD (now graph) 0 0 ≤ 1024) × (2 + 258 * getD (now graph) 0 0 ≤ length (now graph)) × (ownPlace base (getD (now graph) 0 0) ≤ length (now plan)) ⌝ }
     ensures { λ r. ⌜ orNone 65535 r ≡ ledBy (graphFrom (now (graph .entry))) (getD (rowsOf base (graphFrom (now (graph .entry))) (now (plan .entry))) s []) (now (tables .entry)) s byte ⌝ }
     ensures state { λ r. ⌜ ((r ≡ 65535 → ⊥) → r < getD (now (graph .entry)) 0 0) ⌝ }
 {
-    let w = words::word(plan, 3 * s + 1);
-    if w == 65535 {
+    let w = layout::edge(plan, s, 0);
+    if w == layout::TABLE as usize {
         return words::graph::word(graph, s, byte as usize);
     }
-    if edge_takes(tables, tests, w, 2 * s, byte) {
-        return words::word(ends, 2 * s);
+    let first = edge_place(s, 0);
+    if edge_takes(tables, tests, w, first, byte) {
+        return words::word(ends, first);
     }
-    let v = words::word(plan, 3 * s + 2);
-    if edge_takes(tables, tests, v, 2 * s + 1, byte) {
-        return words::word(ends, 2 * s + 1);
+    let v = layout::edge(plan, s, 1);
+    let second = edge_place(s, 1);
+    if edge_takes(tables, tests, v, second, byte) {
+        return words::word(ends, second);
     }
     65535
 }

@@ -85,8 +85,8 @@ loop-again-4 c =
     let not-led = sym (flag l (l .loop .u) (is-state l (omega arith))) ∙ c .if1 .left in
     (omega arith, forking-not (l .loop .inv .1) not-led)
 
-array-read-own : tie.Need-array-read-own Inv-loop μ-loop
-array-read-own c = let s = start (c .before) in omega (arith, s .pre .1, taken-few (s .args .graph .now) (s .pre .0))
+array-read-t20 : tie.Need-array-read-t20 Inv-loop μ-loop
+array-read-t20 c = let s = start (c .before) in omega (arith, s .pre .1, taken-few (s .args .graph .now) (s .pre .0))
 
 returns : tie.Need-returns Inv-loop μ-loop
 returns c =
@@ -114,5 +114,5 @@ fork-at-spec =
     loop-again-3
     loop-less-4
     loop-again-4
-    array-read-own
+    array-read-t20
     returns)

@@ -6,7 +6,6 @@ use Prim.Native.Nat.{_-_, _≤_, _<_}
 use native.Mathlib.Omega.{arith}
 use lib.ListN.{length, getD}
 use Rattle.graph_rules.proofs.Taken.{taken-long}
-use Rattle.plan_rules.specs.Plan.{base}
 use Rattle.plan_rows.proofs.Growing.{by-not}
 use Rattle.plan_rows.proofs.StateNeeds.{Going, going-none, going-allows, going-more, going-refused, going-done}
 use Rattle.plan_rows.proofs.needs.grow.Statement.{statement}

@@ -18,7 +18,7 @@ use Rattle.mask_store.proofs.Growth.{whole}
 use Rattle.plan_rules.specs.Plan.{base, wayTo, edgeNeeds}
 use Rattle.plan_rules.proofs.Lists.{append-all}
 use Rattle.plan_rows.specs.Needs.{grownBy}
-use Rattle.plan_rows.proofs.Forks.{low-below, high-below}
+use Rattle.plan_rows.proofs.Forks.{few-edges, low-below, high-below}
 use Rattle.plan_rows.proofs.Growing.{was-taken, store-grown, front-refused, grown-allows, then-taken, then-refused}
 use Rattle.plan_rows.proofs.StateNeeds.{own-whole, way-whole, own, low, high, state-own, state-table, state-none, state-one, state-two, state-low}
 use Rattle.plan_rows.proofs.needs.with_state.Statement.{statement}
@@ -65,13 +65,13 @@ both-wide o =
 -- ---- the self edge's class is taken, and there are one or two edges
 
 abbrev first : tie.After-by-own → tie.After-with-own
-first b = b .before .before .before .before .before .before .before
+first b = b .before .before .before .before .before .before
 
 some-edge : (b : tie.After-by-own) → first b .before .fork-at .result .count ≡ 0 → ⊥
 some-edge b = b .before .before .before .if2 .left
 
 no-table : (b : tie.After-by-own) → first b .before .fork-at .result .count ≤ 2
-no-table b = b .before .before .before .before .before .if1 .left
+no-table b = let o = first b in few-edges (g o) (start o .args .s) (o .before .fork-at .ensures) (b .before .before .before .before .before .if1 .left)
 
 own-taken : (b : tie.After-by-own) → first b .with-own .result .taken ≡ true
 own-taken b = not-false _ (b .before .if3 .left)
@@ -97,14 +97,14 @@ two-edges : (h : tie.Else5) → first (h .before .before .before .before .before
 two-edges h = let b = h .before .before .before .before .before in omega (arith, h .if5 .left, some-edge b, no-table b)
 
 returns : tie.Need-returns
-returns c = let o = c .before .before in o .with-own .ensures ∙ ap (grownBy (store o)) (state-table (g o) (start o .args .s) (o .before .fork-at .ensures) (c .if1 .taken))
+returns c = let o = c .before in o .with-own .ensures ∙ ap (grownBy (store o)) (state-table (g o) (start o .args .s) (o .before .fork-at .ensures) (c .if1 .taken))
 
 returns-2 : tie.Need-returns-2
-returns-2 c = let o = c .before .before .before .before in o .with-own .ensures ∙ ap (grownBy (store o)) (state-none (g o) (start o .args .s) (o .before .fork-at .ensures) (c .if2 .taken))
+returns-2 c = let o = c .before .before .before in o .with-own .ensures ∙ ap (grownBy (store o)) (state-none (g o) (start o .args .s) (o .before .fork-at .ensures) (c .if2 .taken))
 
 returns-3 : tie.Need-returns-3
 returns-3 c =
-    let o = c .before .before .before .before .before .before in
+    let o = c .before .before .before .before .before in
     let st = stateOf (g o) (start o .args .s) in
     front-refused (store o) (own-of o) (edgeNeeds base st (start o .args .s) (targets (length (g o .states)) st)) (o .with-own .ensures) (not-true _ (c .if3 .taken))
     ∙ ap (grownBy (store o)) (state-own (g o) (start o .args .s) (o .before .fork-at .ensures))

@@ -43,46 +43,52 @@ loop-holds c =
 fork-at-requires : tie.Need-fork-at-requires Inv-loop μ-loop
 fork-at-requires c κs = (entry (c .before) .pre .0, omega arith)
 
-mul-at : tie.Need-mul-at Inv-loop μ-loop
-mul-at c = omega (arith, bounds c)
-
 cast-ends : tie.Need-cast-ends Inv-loop μ-loop
 cast-ends c = omega (arith, bounds (c .before))
 
+edge-place-requires : tie.Need-edge-place-requires Inv-loop μ-loop
+edge-place-requires c κs = (omega (arith, bounds (c .before)), omega arith)
+
 mul-ends : tie.Need-mul-ends Inv-loop μ-loop
-mul-ends c = omega (arith, bounds (c .before))
+mul-ends c = omega (arith, bounds (c .before .before), c .edge-place .ensures)
 
 slice-write-ends : tie.Need-slice-write-ends Inv-loop μ-loop
-slice-write-ends c = omega (arith, bounds (c .before), c .before .before .before .loop .inv .1 .ends-size)
+slice-write-ends c = let fork = c .before .before in omega (arith, bounds fork, c .edge-place .ensures, fork .before .before .loop .inv .1 .ends-size)
 
 cast-ends-2 : tie.Need-cast-ends-2 Inv-loop μ-loop
-cast-ends-2 c = omega (arith, bounds (c .before .before))
+cast-ends-2 c = omega (arith, bounds (c .before .before .before))
 
-add-ends : tie.Need-add-ends Inv-loop μ-loop
-add-ends c = omega (arith, bounds (c .before .before))
+edge-place-requires-2 : tie.Need-edge-place-requires-2 Inv-loop μ-loop
+edge-place-requires-2 c κs = (omega (arith, bounds (c .before .before .before)), omega arith)
 
 mul-ends-2 : tie.Need-mul-ends-2 Inv-loop μ-loop
-mul-ends-2 c = omega (arith, bounds (c .before .before))
+mul-ends-2 c = omega (arith, bounds (c .before .before .before .before), c .edge-place2 .ensures)
 
 slice-write-ends-2 : tie.Need-slice-write-ends-2 Inv-loop μ-loop
-slice-write-ends-2 c = rw length-set (omega (arith, bounds (c .before .before), c .before .before .before .before .loop .inv .1 .ends-size))
+slice-write-ends-2 c =
+    let fork = c .before .before .before .before in
+    rw length-set (omega (arith, bounds fork, c .edge-place2 .ensures, fork .before .before .loop .inv .1 .ends-size))
 
 prepare-edge-requires : tie.Need-prepare-edge-requires Inv-loop μ-loop
 prepare-edge-requires c κs =
-    let fork = c .before .before .before in
+    let fork = c .before .before .before .before .before in
     let at = fork .before .before in
     let b = bounds fork in
     (entry at .pre .0, ((b .0, b .1 .0), (omega arith, at .loop .inv .1 .tests-size)))
 
+-- the fork, where its first edge is prepared
+abbrev forked : tie.After-prepare-edge Inv-loop μ-loop → tie.After-fork-at Inv-loop μ-loop
+forked p = p .before .before .before .before .before .before
+
 prepare-edge-requires-2 : tie.Need-prepare-edge-requires-2 Inv-loop μ-loop
 prepare-edge-requires-2 c κs =
     let first = c .before .before .before in
-    let fork = first .before .before .before .before in
+    let fork = forked first in
     let b = bounds fork in
     (entry (fork .before .before) .pre .0, ((b .0, b .1 .1), (omega arith, first .prepare-edge .ensures .1 .1)))
 
 add-s : tie.Need-add-s Inv-loop μ-loop
-add-s c = omega (arith, bounds (c .before .before .before .before .before .before .before .before .before .before))
+add-s c = omega (arith, bounds (forked (c .before .before .before .before .before .before)))
 
 loop-less : tie.Need-loop-less Inv-loop μ-loop
 loop-less c = omega arith
@@ -91,10 +97,11 @@ loop-again : tie.Need-loop-again Inv-loop μ-loop
 loop-again c =
     let second = c .before .before in
     let first = second .before .before .before .before in
-    let fork = first .before .before .before .before in
+    let fork = forked first in
     let at = fork .before .before in
     let b = bounds fork in
-    (omega arith, prepared-more (at .loop .inv .1) (omega arith) (fork .fork-at .ensures) (first .prepare-edge .last .1 .1 .1 .1 .1 .0) (second .prepare-edge2 .last .1 .1 .1 .1 .1 .0) (first .prepare-edge .ensures) (second .prepare-edge2 .ensures))
+    let places = first .before .before in
+    (omega arith, prepared-more (at .loop .inv .1) (omega arith) (fork .fork-at .ensures) (places .before .before .edge-place .ensures) (places .edge-place2 .ensures) (first .prepare-edge .last .1 .1 .1 .1 .1 .0) (second .prepare-edge2 .last .1 .1 .1 .1 .1 .0) (first .prepare-edge .ensures) (second .prepare-edge2 .ensures))
 
 same-length : tie.Need-same-length Inv-loop μ-loop
 same-length c = omega (arith, c .before .loop .inv .1 .ends-size, entry (c .before) .pre .1 .0)
@@ -117,12 +124,12 @@ prepare-spec =
     cast-n
     loop-holds
     fork-at-requires
-    mul-at
     cast-ends
+    edge-place-requires
     mul-ends
     slice-write-ends
     cast-ends-2
-    add-ends
+    edge-place-requires-2
     mul-ends-2
     slice-write-ends-2
     prepare-edge-requires

@@ -6,7 +6,7 @@ use Prim.Native.Nat.{ℕ, _+_, _*_, _-_, _≤_}
 use native.Mathlib.Omega.{arith}
 use lib.ListN.{length, getD, take, set}
 use lib.Seq.{sets, length-sets, take-all}
-use Rattle.runner.proofs.Packed.{run-more}
+use Rattle.plan_rows.proofs.Rowwise.{run-more}
 use Rattle.runner.proofs.prepare.write.Statement.{statement}
 use Rattle.runner.proofs.prepare.write.Tie as tie
 

@@ -6,10 +6,6 @@ use Rattle.runner.proofs.Running.{no-end, end-below, end-marks}
 use borrow.Author.Needs.{needs}
 use Rattle.runner.proofs.run.ended.Statement.{statement}
 use Rattle.runner.proofs.run.ended.Tie as tie
-use Rattle.runner.proofs.run.ended.Reads as reads
-use Rattle.runner.proofs.run.ended.Lts as lts
-use Rattle.readings.proofs.read.accept_at_end.Reads as accept-at-end-reads
-use Rattle.words.proofs.graph.word.Reads as word-reads
 
 word-requires : tie.Need-word-requires
 word-requires c κs = search needs

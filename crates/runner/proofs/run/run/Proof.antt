@@ -14,14 +14,6 @@ use Rattle.plan_rules.specs.Run.{runFrom, rowsOf}
 use Rattle.runner.proofs.Running.{rest, rest-start, no-states, plan-long, mask-few, run-ends, run-stops, run-goes}
 use Rattle.runner.proofs.run.run.Statement.{statement}
 use Rattle.runner.proofs.run.run.Tie as tie
-use Rattle.runner.proofs.run.run.Reads as reads
-use Rattle.runner.proofs.run.run.Lts as lts
-use Rattle.readings.proofs.read.mark_at.Reads as mark-at-reads
-use Rattle.runner.proofs.step.step.Reads as step-reads
-use Rattle.runner.proofs.run.ended.Reads as ended-reads
-use Rattle.runner.proofs.self_run.passed.Reads as passed-reads
-use Rattle.words.proofs.graph.word.Reads as graph-word-reads
-use Rattle.words.proofs.word.Reads as word-reads
 
 abbrev Inv-loop : tie.InvT-loop
 Inv-loop graph plan tables ends tests text r₀ s₀ k₀ r s k =
