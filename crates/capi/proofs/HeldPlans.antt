@@ -1,9 +1,9 @@
 -- Planning, a run and a scan on a store in a caller's block: they are the calls on the block's store, or, where the block is none, on a store that counts
 -- 65, which 15 refuses after 12 and 14. Assumes nothing.
-use mathlib.Core.Path.{_≡_, refl, sym, ap, _∙_}
+use mathlib.Core.Path.{_≡_, refl, sym, ap}
 use mathlib.Core.Bool.{Bool, true, false}
 use mathlib.Core.List.{List}
-use Prim.Native.Nat.{ℕ, _+_, _≤_}
+use Prim.Native.Nat.{ℕ, _≤_}
 use native.Mathlib.Omega.{arith}
 use borrow.Author.Tests.{eq-eqb, ne-eqb, leb-true}
 use lib.Dec.{eqb, leb, ltb}
@@ -14,7 +14,7 @@ use Rattle.readings.specs.declared.read.Read.{Read}
 use Rattle.readings.specs.declared.read.Read.the-variants.{Refused}
 use Rattle.classes.specs.Classes.{Class}
 use Rattle.mask_store.specs.declared.MaskStore.{MaskStore}
-use Rattle.mask_store.specs.Masks.{storeOf, held, heldWith, grown, allowed, takes}
+use Rattle.mask_store.specs.Masks.{storeOf, heldWith, grown, allowed, takes}
 use Rattle.mask_store.proofs.Growth.{length-all}
 use Rattle.plan_rules.specs.Plan.{base, needs, planSize}
 use Rattle.scans.specs.declared.scan.Scan.{Scan}

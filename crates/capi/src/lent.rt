@@ -4,7 +4,6 @@ ghost use mathlib.Core.List.{[], _∷_};
 ghost use Prim.Native.Nat.{_+_, _≤_};
 ghost use lib.ListN.{length};
 ghost use lib.Seq.{sets};
-ghost use Rattle.lists.specs.Report.{Report};
 ghost use Rattle.capi.specs.Lent.{isFlag, flagsOf, put, putReport};
 
 // Whether entry b is there and not 0.

@@ -2,7 +2,6 @@
 ghost use mathlib.Core.Path.{_≡_};
 ghost use mathlib.Core.List.{[], _∷_};
 ghost use lib.ListN.{length};
-ghost use Rattle.lists.specs.Report.{Report};
 ghost use Rattle.mask_store.specs.Masks.{storeOf, addReport};
 ghost use Rattle.capi.specs.Lent.{flagsOf};
 ghost use Rattle.capi.specs.Stores.{storeIn, addTo, flat, renderTo};

@@ -11,7 +11,7 @@ use trees::tree::record_at;
 use utf8::Points;
 use utf8::code_points;
 ghost use mathlib.Core.Path.{_≡_};
-ghost use Prim.Native.Nat.{ℕ, _+_, _<_, _≤_};
+ghost use Prim.Native.Nat.{_+_, _<_, _≤_};
 ghost use lib.ListN.{length, take, drop};
 ghost use Rattle.lists.specs.Lists.{tab};
 ghost use Rattle.utf8.specs.Utf8.{widthOf, codePoints};

@@ -1,15 +1,15 @@
 -- A scan's answer by its place, and the token or gap that a walk's last record gives. Assumes nothing.
-use mathlib.Core.Path.{_≡_, refl, sym, ap, subst, _∙_}
+use mathlib.Core.Path.{_≡_, sym, ap, subst, _∙_}
 use mathlib.Core.Bool.{true, false}
 use mathlib.Core.List.{List}
-use mathlib.Core.Option.{none, some}
+use mathlib.Core.Option.{some}
 use Prim.Native.Nat.{ℕ, _+_, _-_, _≤_, _<_}
 use native.Mathlib.Omega.{arith}
 use borrow.Author.Tests.{eq-eqb, ne-eqb, lt-ltb, le-ltb}
 use lib.ListN.{length, take, drop, length-drop}
 use lib.Seq.{take-all}
 use Rattle.graph_rules.specs.Graph.{Graph, graphFrom, graphFits}
-use Rattle.graph_rules.specs.Read.{Found, Reading, readGraph}
+use Rattle.graph_rules.specs.Read.{Reading, readGraph}
 use Rattle.readings.specs.Answers.{recorded}
 use Rattle.readings.proofs.Turn.{recorded-none, recorded-some}
 use Rattle.scans.specs.declared.scan.NextAnswer.the-variants.{Token, Gap, Ended, Refused}

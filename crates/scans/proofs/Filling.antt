@@ -1,25 +1,21 @@
 -- A text's entries written into a buffer, one after another: what is written, and what repeated calls would still give, are together the whole list.
 -- Assumes nothing.
 use mathlib.Core.Path.{_≡_, refl, sym, ap, subst, _∙_}
-use mathlib.Core.Bool.{Bool, true, false}
 use mathlib.Core.List.{List, [], _∷_, _++_, flatMap, append-assoc, append-nil}
-use Prim.Native.Nat.{ℕ, zero, suc, _+_, _-_, _*_, _≤_, _<_}
+use Prim.Native.Nat.{ℕ, suc, _+_, _-_, _*_, _≤_, _<_}
 use native.Mathlib.Omega.{arith}
-use native.Mathlib.Numerals.{add-one}
 use lib.ListN.{length, drop, set, length-append}
 use lib.Seq.{sets}
 use Rattle.lists.proofs.Bools.{Is, is, yes-is, no-is}
 use Rattle.lists.proofs.Buffers.{Filled, filled-none, filled-run}
 use Rattle.graph_rules.specs.Graph.{Graph}
 use Rattle.graph_rules.specs.Read.{readGraph}
-use Rattle.scans.specs.declared.scan.NextAnswer.{NextAnswer}
 use Rattle.scans.specs.declared.scan.Entry.{Entry}
 use Rattle.scans.specs.declared.scan.Scanned.{Scanned}
 use Rattle.scans.specs.declared.scan.Scan.{Scan}
 use Rattle.scans.specs.declared.scan.Place.the-variants.{Reading as ReadingAt}
 use Rattle.scans.specs.declared.list.ListAnswer.the-variants.{Listed as Entries}
-use Rattle.scans.specs.declared.list.Listed.{Listed}
-use Rattle.scans.specs.Scan.{readingAt, hasEnded, entryOf, scannedBy, scanAt, scanOf}
+use Rattle.scans.specs.Scan.{readingAt, hasEnded, entryOf, scannedBy}
 use Rattle.scans.specs.List.{entryWords, leafWord, Listing, oneMore, goOn, listFor, listWords, listedBy}
 use Rattle.scans.proofs.Entries.{scan-ends, scan-goes}
 use Rattle.scans.proofs.Scans.{Moves, entry-moves}

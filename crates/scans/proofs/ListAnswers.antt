@@ -1,17 +1,16 @@
 -- What the list call answers, once its refusals are decided. Assumes nothing.
-use mathlib.Core.Path.{_≡_, refl, sym, ap, subst, _∙_}
+use mathlib.Core.Path.{_≡_, refl, sym, ap, _∙_}
 use mathlib.Core.Bool.{true, false}
 use mathlib.Core.List.{List}
 use Prim.Native.Nat.{ℕ, _≤_, _<_, _/_}
 use lib.ListN.{length}
 use Rattle.graph_rules.specs.Graph.{Graph, graphFrom, graphFits}
-use Rattle.scans.specs.declared.scan.NextAnswer.{NextAnswer}
 use Rattle.scans.specs.declared.scan.Scan.{Scan}
 use Rattle.scans.specs.declared.scan.Scanned.{Scanned}
 use Rattle.scans.specs.declared.scan.Place.{Place}
 use Rattle.scans.specs.declared.scan.Place.the-variants.{Reading as ReadingAt, Ended as HasEnded}
-use Rattle.scans.specs.Scan.{readingAt, scanAt, scanOf}
-use Rattle.scans.specs.List.{Listing, ScanList, listFor, noList, someList, listFrom, unlessRefused, scanList}
+use Rattle.scans.specs.Scan.{readingAt, scanAt}
+use Rattle.scans.specs.List.{ScanList, listFor, noList, someList, listFrom, unlessRefused, scanList}
 use Rattle.scans.proofs.Entries.{scan-past, scan-over}
 use Rattle.scans.proofs.Scans.{Step, a-token, a-gap, the-end, scan-step}
 
