@@ -1,4 +1,4 @@
--- A scan's number tells the scan, and a call that refuses leaves it as found: each refusal of `next`, of `scan_list` and of `scan_planned` hands back
+-- A scan's number tells the scan, and a call that refuses leaves it unchanged: each refusal of `next`, of `scan_list` and of `scan_planned` hands back
 -- the scan that came in, whose number is the one that came in. Assumes nothing.
 use mathlib.Core.Path.{_≡_, refl, sym, ap, _∙_}
 use mathlib.Core.List.{List}

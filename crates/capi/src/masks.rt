@@ -22,7 +22,7 @@ fn store_of(tables: &[u8], count: usize) -> MaskStore
 }
 
 // The store of a block; one that 15 refuses, since it counts over 64, for a block of another length.
-pub fn store_in(tables: &[u8], count: usize) -> MaskStore
+pub(crate) fn store_in(tables: &[u8], count: usize) -> MaskStore
     ensures { λ r. ⌜ r ≡ storeIn (now (tables .entry)) count ⌝ }
 {
     if tables.len() != 2048 {

@@ -18,3 +18,4 @@ pub mod Flat
 pub mod Taken
 pub mod Cleanness
 pub mod Promises
+pub mod Legal

@@ -1,5 +1,5 @@
 -- Every bit of a store that has grown by several classes: masks that were held keep their bits, new ones are the classes, and every other bit is
--- as it was, also those that mean nothing. Assumes nothing.
+-- unchanged, also those that mean nothing. Assumes nothing.
 use mathlib.Core.Path.{_≡_, sym, ap, _∙_}
 use mathlib.Core.Bool.{true, cond, _&&_}
 use mathlib.Core.List.{List, [], _∷_, _++_}

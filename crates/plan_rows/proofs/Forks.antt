@@ -2,12 +2,14 @@
 use mathlib.Core.Path.{_≡_, refl, sym, ap, subst, _∙_}
 use mathlib.Core.Bool.{Bool, true, false}
 use mathlib.Core.List.{List, [], _∷_, _++_}
+use mathlib.Core.Logic.{_⊎_, inl, inr}
 use Prim.Native.Nat.{ℕ, _+_, _≤_, _<_}
 use native.Mathlib.Omega.{arith}
 use borrow.Author.Tests.{ltb-true, ltb-false, lt-ltb}
 use lib.Dec.{eqb, ltb}
-use lib.ListN.{length, getD, length-append}
+use lib.ListN.{length, getD, length-append, List·getD-eq-default}
 use Rattle.lists.specs.Lists.{below, anyL, allL, those}
+use Rattle.lists.proofs.Bools.{lt-or-le}
 use Rattle.lists.proofs.Elements.{length-tab, getD-tab0, all-at, all-intro, eqb-sound}
 use Rattle.lists.proofs.Distinct.{those-keep}
 use Rattle.lists.proofs.Those.{those-more, those-same}
@@ -78,15 +80,23 @@ module _ {p : ℕ → Bool} {count low high u : ℕ} (f : Forking p count low hi
 -- ---- the targets of a state
 
 -- each is a state
-pub target-below : (n : ℕ) (st : State) (i : ℕ) → i < length (targets n st) → getD (targets n st) i 0 < n
+edge-below : (n : ℕ) (st : State) (i : ℕ) → i < length (targets n st) → getD (targets n st) i 0 < n
 unfolding targets
-target-below n st i h =
+edge-below n st i h =
     ltb-true _ n (all-at (λ x. ltb x n) (targets n st) i 0 (those-keep _ eqb-sound (leadsTo st) (λ x. ltb x n) (below n) small) h)
   where
     small : allL (λ x. ltb x n) (below n) ≡ true
     small =
         all-intro (λ x. ltb x n) (below n) 0
         (λ j k. let b : j < n = omega (arith, length-tab 0 n (λ x. x)) in ap (λ (x : ℕ). ltb x n) (getD-tab0 n (λ x. x) j 0 b) ∙ lt-ltb j n b)
+
+-- and so is 0, which stands where there is no such edge
+pub target-below : (n : ℕ) (st : State) (j : ℕ) → 0 < n → getD (targets n st) j 0 < n
+target-below n st j h = go (lt-or-le j (length (targets n st)))
+  where
+    go : (j < length (targets n st)) ⊎ (length (targets n st) ≤ j) → getD (targets n st) j 0 < n
+    go (inl l) = edge-below n st j l
+    go (inr l) = rw (List·getD-eq-default (targets n st) 0 l) h
 
 -- all of them met
 pub forked : (w : List ℕ) (s u : ℕ) {own : Bool} {count low high : ℕ}
@@ -134,9 +144,9 @@ module _ (g : Graph) (s : ℕ) {f : Fork} (is-fork : f ≡ forkOf g s) where
   unfolding forkOf forkIn
   fork-high = ap (λ (x : Fork). x .high) is-fork
 
-  -- edges that are there lead to states
-  pub low-below : (f .count ≡ 0 → ⊥) → f .low < length (g .states)
-  low-below h = omega (arith, fork-low, target-below (length (g .states)) (stateOf g s) 0 (omega (arith, h, fork-count)))
+  -- they lead to states
+  pub low-below : 0 < length (g .states) → f .low < length (g .states)
+  low-below h = omega (arith, fork-low, target-below (length (g .states)) (stateOf g s) 0 h)
 
-  pub high-below : 1 < f .count → f .high < length (g .states)
-  high-below h = omega (arith, fork-high, target-below (length (g .states)) (stateOf g s) 1 (omega (arith, fork-count)))
+  pub high-below : 0 < length (g .states) → f .high < length (g .states)
+  high-below h = omega (arith, fork-high, target-below (length (g .states)) (stateOf g s) 1 h)

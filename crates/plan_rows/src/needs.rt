@@ -16,7 +16,7 @@ use mask_store::AddAnswer;
 use mask_store::MaskStore;
 use plan_rules::Way;
 
-// Whether a store takes classes, and the store with them; as it was if not.
+// Whether a store takes classes, and the store with them; unchanged if not.
 pub struct Grown {
     pub taken: bool,
     pub store: MaskStore,

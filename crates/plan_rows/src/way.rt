@@ -12,7 +12,7 @@ use plan_rules::Way;
 pub const EDGES: usize = 2;
 
 // Above this cost the class of an edge takes a mask.
-pub const COST: usize = 2;
+pub(crate) const COST: usize = 2;
 
 // How a byte is tested for the edge from s to u where no table is used.
 pub fn way_to(graph: &[u16], s: usize, u: usize) -> Way

@@ -68,7 +68,7 @@ abbrev pub rowHeld : ℕ → List ℕ → Bool
 rowHeld count row = leb (selfOf row) count && allL (edgeHeld count) (drop 1 row)
 
 module _ (set : Settings) where
-  -- the plan words, a piece for each state
+  -- the plan words, a row for each state
   unfoldable pub rowsOf : Graph → List ℕ → List (List ℕ)
   rowsOf g words = pieces (rowSize set) (length (g .states)) words
 

@@ -19,8 +19,8 @@ use Rattle.mask_store.specs.declared.MaskStore.{MaskStore}
 use Rattle.mask_store.specs.Masks.{held, heldWith, grown, allowed, takes}
 use Rattle.plan_rules.specs.Plan.{base, needs, planWords, planOf, planSize}
 use Rattle.plan_rules.specs.Run.{selfOf, edgeHeld, rowHeld, rowsOf, runFrom, run, isPlan}
-use Rattle.plan_rules.proofs.Lists.{all-weaker}
-use Rattle.plan_rules.proofs.Legal.{legal-closed, legal-root}
+use Rattle.lists.proofs.Flattened.{all-weaker}
+use Rattle.graph_rules.proofs.Legal.{legal-closed, legal-root}
 use Rattle.plan_rules.proofs.RunIsWalk.{base-sane, takes-few, plan-runs}
 use Rattle.plan_rules.proofs.Decided.{plan-decided}
 use Rattle.runner.specs.Prepared.{PlanOn}

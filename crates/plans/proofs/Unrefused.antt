@@ -18,7 +18,7 @@ use Rattle.mask_store.specs.declared.MaskStore.{MaskStore}
 use Rattle.mask_store.specs.Masks.{takes, grown}
 use Rattle.plan_rules.specs.Plan.{Settings, Sane, needs, planOf, planSize}
 use Rattle.plan_rules.specs.Run.{run, isPlan}
-use Rattle.plan_rules.proofs.Legal.{legal-closed, legal-root}
+use Rattle.graph_rules.proofs.Legal.{legal-closed, legal-root}
 use Rattle.plan_rules.proofs.RunIsWalk.{plan-runs}
 use Rattle.planning.specs.declared.plan.PlanAnswer.the-variants.{Planned, Refused as NoPlan}
 use Rattle.scans.specs.declared.scan.Place.{Place}

@@ -105,7 +105,7 @@ fn refusal(scan: Scan, graph: &[u16], plan: &[u16], store: MaskStore, text: &[u8
     crate::run::refusal(graph, plan, store)
 }
 
-// A text's tokens and gaps from a scan on, as many as there is room for; or 12, 14, 15 or 16, and the scan and the buffer as they were.
+// A text's tokens and gaps from a scan on, as many as there is room for; or 12, 14, 15 or 16, and the scan and the buffer unchanged.
 pub fn scan_planned(
     scan: Scan,
     graph: &[u16],

@@ -7,14 +7,14 @@ ghost use Rattle.plans.specs.Run.{planRefusal, runRefusal, runCall};
 use mask_store::MaskStore;
 use readings::read::Read;
 
-// Why the words are no plan of a graph that 12 takes, on this store: 14 or 15; or 0. The plan of graph and store names no mask that the store lacks
+// Why the words are no plan of well-formed graph words (refusal 12), on this store: 14 or 15; or 0. The plan of graph and store names no mask that the store lacks
 // exactly where the store lacks no class that the graph needs.
 pub(crate) fn refusal(graph: &[u16], plan: &[u16], store: MaskStore) -> u8
     requires { ⌜ graphFits (now graph) ≡ true ⌝ }
     ensures { λ r. ⌜ r ≡ planRefusal base (graphFrom (now (graph .entry))) (now (plan .entry)) store ⌝ }
 {
     let states = words::word(graph, 0);
-    if plan.len() < 3 * states {
+    if plan.len() < plan_rows::layout::ROW * states {
         return 14;
     }
     let grown = plan_rows::needs::grow(graph, store);

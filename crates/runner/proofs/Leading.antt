@@ -3,21 +3,19 @@ use mathlib.Core.Path.{_≡_, refl, sym, ap, subst, _∙_}
 use mathlib.Core.Bool.{Bool, true, false, false≢true}
 use mathlib.Core.List.{List, [], _∷_}
 use mathlib.Core.Option.{Option, none, some}
-use mathlib.Core.Logic.{_⊎_, inl, inr, ⊎-elim}
+use mathlib.Core.Logic.{_⊎_, ⊎-elim}
 use Prim.Native.Nat.{ℕ, zero, suc, _+_, _-_, _*_, _≤_, _<_}
 use native.Mathlib.Omega.{arith}
-use native.Mathlib.Nat.{not-suc-le-zero, le-of-suc-le-suc}
-use lib.ListN.{length, getD, List·getD-eq-default}
-use Rattle.lists.specs.Lists.{tab, those}
-use Rattle.lists.proofs.Bools.{Is, yes-is, no-is, is, lt-or-le}
+use lib.ListN.{length, getD}
 use Rattle.graph_rules.specs.Graph.{State, Graph, stateOf, orNone, graphFrom, graphFits}
 use Rattle.graph_rules.proofs.Flat.{from-length, from-to}
 use Rattle.graph_rules.proofs.Taken.{taken-long, taken-few, taken-target}
 use Rattle.graph_rules.proofs.Nones.{or-number}
 use Rattle.classes.specs.Classes.{comparisons, someHolds}
 use Rattle.mask_store.specs.Masks.{maskHas}
-use Rattle.edges.specs.Edges.{classTo, targets, leadsTo}
+use Rattle.edges.specs.Edges.{classTo}
 use Rattle.plan_rules.specs.Plan.{base}
+use Rattle.plan_rows.proofs.Forks.{target-below}
 use Rattle.plan_rules.specs.Run.{edgeTakes, along, ledBy, rowsOf}
 use Rattle.runner.specs.Prepared.{targetsOf, testsAt, edgeAt, Prepared, PlanOn}
 use Rattle.runner.proofs.PlanRow.{led-table, led-edges, edge-absent, edge-few, edge-compared}
@@ -57,26 +55,6 @@ module _ (tables : List ℕ) (st : State) (b : ℕ) where
   along-none (u ∷ x ∷ []) w v f t = rw (f, t, along)
   along-none (u ∷ x ∷ y ∷ ts) w v f t = rw (f, t, along)
 
--- ---- targets are states
-
-those-below : (p : ℕ → Bool) (i m j : ℕ) → j < length (those p (tab i m (λ x. x))) → getD (those p (tab i m (λ x. x))) j 0 < i + m
-those-below p i zero j h = absurd (not-suc-le-zero h)
-those-below p i (suc m) j h = go (is (p i)) (those-below p (suc i) m) j h
-  where
-    go : Is (p i) → ((j : ℕ) → j < length (those p (tab (suc i) m (λ x. x))) → getD (those p (tab (suc i) m (λ x. x))) j 0 < suc i + m)
-        → (j : ℕ) → j < length (those p (tab i (suc m) (λ x. x))) → getD (those p (tab i (suc m) (λ x. x))) j 0 < i + suc m
-    go (yes-is q) f zero h = rw (q, those) (omega arith)
-    go (yes-is q) f (suc j) h = let l = f j (le-of-suc-le-suc (rw (q, those) at h)) in rw (q, those) (omega arith)
-    go (no-is q) f j h = let l = f j (rw (q, those) at h) in rw (q, those) (omega arith)
-
-pub target-below : (g : Graph) (s j : ℕ) → 0 < length (g .states) → getD (targetsOf g s) j 0 < length (g .states)
-unfolding targets
-target-below g s j h = go (lt-or-le j (length (targetsOf g s)))
-  where
-    go : (j < length (targetsOf g s)) ⊎ (length (targetsOf g s) ≤ j) → getD (targetsOf g s) j 0 < length (g .states)
-    go (inl l) = let e = those-below (leadsTo (stateOf g s)) 0 (length (g .states)) j l in omega arith
-    go (inr l) = subst (λ (x : ℕ). x < length (g .states)) (sym (List·getD-eq-default (targetsOf g s) 0 l)) h
-
 -- ---- the tests of a state's edges, and where they lead
 
 module _ (g : Graph) (words : List ℕ) (p : PlanOn g words) (s : ℕ) (h : s < length (g .states)) (plain : getD words (3 * s + 1) 0 ≡ 65535 → ⊥)
@@ -102,7 +80,7 @@ module _ (g : Graph) (words : List ℕ) (p : PlanOn g words) (s : ℕ) (h : s < 
         → (orNone 65535 r ≡ ledBy g row tables s b) × (r < length (g .states))
     led-to j l e k =
         let z : r ≡ getD ts j 0 = e ∙ made .ends-are s j h l in
-        let q : r < length (g .states) = subst (λ (x : ℕ). x < length (g .states)) (sym z) (target-below g s j (omega arith)) in
+        let q : r < length (g .states) = subst (λ (x : ℕ). x < length (g .states)) (sym z) (target-below (length (g .states)) (stateOf g s) j (omega arith)) in
         (or-number 65535 r (λ x. omega arith) ∙ ap {B = Option ℕ} some z ∙ sym k, q)
 
     pub led-first : takes 0 ≡ true → r ≡ getD ends (edgeAt s 0) 0 → (orNone 65535 r ≡ ledBy g row tables s b) × (r < length (g .states))

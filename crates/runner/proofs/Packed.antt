@@ -1,4 +1,4 @@
--- The comparisons of an edge in their 12 bytes: read by parts, written, and left as they were when another edge's are written. Assumes nothing.
+-- The comparisons of an edge in their 12 bytes: read by parts, written, and unchanged when another edge's are written. Assumes nothing.
 use mathlib.Core.Path.{_≡_, refl, sym, ap, _∙_}
 use mathlib.Core.Bool.{Bool, true, false, _&&_, _||_}
 use mathlib.Core.List.{List, [], _∷_, _++_, append-assoc}

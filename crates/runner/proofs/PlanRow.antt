@@ -15,13 +15,12 @@ use Rattle.lists.proofs.Elements.{all-at}
 use Rattle.lists.proofs.Pieces.{pieces-length, pieces-at}
 use Rattle.graph_rules.specs.Graph.{Graph, stateOf, to}
 use Rattle.classes.specs.Classes.{Class, comparisons}
-use Rattle.mask_store.specs.Masks.{numberOf}
-use Rattle.mask_store.proofs.Numbers.{number-most}
 use Rattle.edges.specs.Edges.{classTo}
 use Rattle.plan_rules.specs.declared.Way.{Way}
 use Rattle.plan_rules.specs.declared.Way.the-variants.{BySelf, ByTests, ByMask}
-use Rattle.plan_rules.specs.Plan.{base, byTable, wayTo, wayWord, edgeWords, planRow, planSize}
+use Rattle.plan_rules.specs.Plan.{base, tableWord, byTable, wayTo, wayWord, edgeWords, planRow, planSize}
 use Rattle.plan_rules.specs.Run.{selfOf, saysTable, along, ledBy, edgeHeld, rowHeld, rowsOf}
+use Rattle.plan_rules.proofs.Edges.{no-table-word}
 use Rattle.plan_rules.proofs.RunIsWalk.{base-sane, row-length, row-at, rows-are}
 use Rattle.runner.specs.Prepared.{targetsOf, testsAt, Prepared, PlanOn}
 
@@ -50,11 +49,6 @@ module _ (f : ℕ → ℕ) (m : ℕ) where
   padded-out (u ∷ ts) (suc j) h = padded-out ts j (le-of-suc-le-suc h)
 
 -- what an edge's word says
-few-way : (all : List Class) (w : Way) (c : Class) → length all ≤ 64 → wayWord all w c < 65535
-few-way all BySelf c l = omega arith
-few-way all ByTests c l = omega arith
-few-way all ByMask c l = let h : numberOf all c ≤ length all = number-most all c in omega arith
-
 one-tests : (all : List Class) (w : Way) (c : Class) → wayWord all w c ≡ 1 → w ≡ ByTests
 one-tests all BySelf c e = absurd (omega arith)
 one-tests all ByTests c e = refl
@@ -98,13 +92,13 @@ module _ (g : Graph) (words : List ℕ) (p : PlanOn g words) (s : ℕ) (h : s < 
 
   -- ---- a table
 
-  pub led-table : (tables : List ℕ) (b : ℕ) → getD words (3 * s + 1) 0 ≡ 65535 → ledBy g row tables s b ≡ to g s b
+  pub led-table : (tables : List ℕ) (b : ℕ) → getD words (3 * s + 1) 0 ≡ tableWord → ledBy g row tables s b ≡ to g s b
   unfolding ledBy
   led-table tables b e = let t : saysTable row ≡ true = eq-eqb _ _ (row-word 1 (omega arith) ∙ e) in rw (t, ledBy)
 
   -- ---- edges
 
-  module _ (plain : getD words (3 * s + 1) 0 ≡ 65535 → ⊥) where
+  module _ (plain : getD words (3 * s + 1) 0 ≡ tableWord → ⊥) where
     pub led-edges : (tables : List ℕ) (b : ℕ) → ledBy g row tables s b ≡ along tables (stateOf g s) ts (getD words (3 * s + 1) 0 ∷ getD words (3 * s + 2) 0 ∷ []) b
     unfolding ledBy
     led-edges tables b =
@@ -116,7 +110,7 @@ module _ (g : Graph) (words : List ℕ) (p : PlanOn g words) (s : ℕ) (h : s < 
     unfolding planRow edgeWords
     no-table = go (is (byTable base ts))
       where
-        first : byTable base ts ≡ true → getD (planRow base (p .all) g s) 1 0 ≡ 65535
+        first : byTable base ts ≡ true → getD (planRow base (p .all) g s) 1 0 ≡ tableWord
         first q = rw q
 
         go : Is (byTable base ts) → byTable base ts ≡ false
@@ -144,12 +138,12 @@ module _ (g : Graph) (words : List ℕ) (p : PlanOn g words) (s : ℕ) (h : s < 
             ap (edgeHeld 64) (sym (row-word (suc j) (omega arith)) ∙ ap (λ (x : ℕ). getD row x 0) z ∙ sym (getD-drop 1 row j 0))
             ∙ all-at (edgeHeld 64) (drop 1 row) j 0 (and-both (leb (selfOf row) 64) _ row-held .1) (rw row-edges l)
 
-        go : (j < length ts) ⊎ (length ts ≤ j) → (ltb w 66 ≡ true) ⊎ (eqb w 65535 ≡ true) → w < 66
+        go : (j < length ts) ⊎ (length ts ≤ j) → (ltb w 66 ≡ true) ⊎ (eqb w tableWord ≡ true) → w < 66
         go a (inl b) = ltb-true _ _ b
         go (inl a) (inr b) =
             let e : w ≡ word (getD ts j 0) = edge-word j l ∙ padded-in word (2 - length ts) ts j a in
-            let k : word (getD ts j 0) < 65535 = few-way (p .all) (wayTo base (stateOf g s) s (getD ts j 0)) (classTo (stateOf g s) (getD ts j 0)) (p .few) in
-            let z : w ≡ 65535 = eqb-true _ _ b in
+            let k : word (getD ts j 0) < tableWord = no-table-word (p .all) (p .few) (wayTo base (stateOf g s) s (getD ts j 0)) (classTo (stateOf g s) (getD ts j 0)) in
+            let z : w ≡ tableWord = eqb-true _ _ b in
             absurd (omega arith)
         go (inr a) (inr b) = let e = edge-absent j l a in omega arith
 

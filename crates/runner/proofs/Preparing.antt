@@ -5,42 +5,26 @@ use mathlib.Core.List.{List}
 use Prim.Native.Nat.{ℕ, zero, suc, _+_, _≤_, _<_}
 use native.Mathlib.Omega.{arith}
 use borrow.Author.Count.{below-more}
-use lib.ListN.{length, getD, set, length-set, List·getD-eq-default}
+use lib.ListN.{length, getD, set, length-set}
 use lib.Seq.{getD-set-same, getD-set-other}
-use Rattle.lists.proofs.Bools.{Order, less, equal, more, order}
 use Rattle.classes.specs.Classes.{comparisons}
-use Rattle.graph_rules.specs.Graph.{State, Graph, stateOf, graphFrom}
+use Rattle.graph_rules.specs.Graph.{Graph, stateOf, graphFrom}
 use Rattle.graph_rules.proofs.Flat.{from-length}
-use Rattle.edges.specs.Edges.{classTo, targets}
+use Rattle.edges.specs.Edges.{classTo}
 use Rattle.plan_rules.specs.declared.Way.the-variants.{ByTests}
 use Rattle.plan_rules.specs.Plan.{base, byTable, wayTo}
 use Rattle.plan_rows.specs.Fork.{forkOf}
-use Rattle.plan_rows.proofs.Forks.{target-below as edge-below, fork-count, fork-table, fork-low, fork-high}
+use Rattle.plan_rows.proofs.Forks.{fork-count, fork-table, fork-low, fork-high, low-below, high-below}
 use Rattle.plan_rows.specs.declared.fork.Fork.{Fork}
 use Rattle.runner.specs.Prepared.{testsAt, targetsOf, edgeClass, edgeAt, Prepared}
 use Rattle.runner.proofs.Packed.{Edge}
 
--- ---- targets are states
-
--- the target of an edge is a state, and so is 0, which stands where there is no such edge
-pub target-below : (n : ℕ) (st : State) (j : ℕ) → 0 < n → getD (targets n st) j 0 < n
-target-below n st j h = go (order j (length (targets n st)))
-  where
-    none : length (targets n st) ≤ j → getD (targets n st) j 0 < n
-    none k = rw (List·getD-eq-default (targets n st) 0 k) h
-
-    go : Order j (length (targets n st)) → getD (targets n st) j 0 < n
-    go (less l) = edge-below n st j l
-    go (equal e) = none (omega arith)
-    go (more m) = none (omega arith)
-
-module _ (w : List ℕ) (s : ℕ) (h : s < getD w 0 0) {fork : Fork} (is : fork ≡ forkOf (graphFrom w) s) where
-  pub fork-below : (fork .low < getD w 0 0) × (fork .high < getD w 0 0)
-  fork-below =
-      let n = from-length w in
-      let at : (j : ℕ) → getD (targetsOf (graphFrom w) s) j 0 < getD w 0 0
-      = λ j. omega (arith, target-below (length (graphFrom w .states)) (stateOf (graphFrom w) s) j (omega arith)) in
-      rw (fork-low (graphFrom w) s is, fork-high (graphFrom w) s is) (at 0, at 1)
+-- the targets of a fork are states
+pub fork-below : (w : List ℕ) (s : ℕ) → s < getD w 0 0 → {fork : Fork} → fork ≡ forkOf (graphFrom w) s → (fork .low < getD w 0 0) × (fork .high < getD w 0 0)
+fork-below w s h is =
+    let n = from-length w in
+    let some : 0 < length (graphFrom w .states) = omega arith in
+    (omega (arith, low-below (graphFrom w) s is some), omega (arith, high-below (graphFrom w) s is some))
 
 -- ---- the states below n are prepared
 

@@ -35,7 +35,7 @@ fn in_range(first: u8, last: u8, byte: u8) -> bool
 
 // Whether one of the comparisons of edge e holds of the byte. Most edges have one range and no exception: a token's byte is then tested by two
 // comparisons and nothing else.
-pub fn edge_holds(tests: &[u8], e: usize, byte: u8) -> bool
+pub(crate) fn edge_holds(tests: &[u8], e: usize, byte: u8) -> bool
     requires { ⌜ e < 2048 ⌝ }
     requires { ⌜ length (now tests) ≡ 24576 ⌝ }
     ensures { λ r. ⌜ r ≡ someHolds (testsAt (now (tests .entry)) e) byte ⌝ }

@@ -51,7 +51,7 @@ from-offset g text (suc k) o h few = ⊎-elim at-end (inside (λ e a b. from-off
 pub scan-ends-by : (g : Graph) (text : List ℕ) → Ends 0 (length text) (listFor g text (length text + 1) fresh)
 scan-ends-by g text = from-offset g text (length text + 1) 0 (omega arith) (omega arith)
 
--- ---- the same of the calls on graph words that 12 takes
+-- ---- the same of the calls on well-formed graph words (refusal 12)
 
 module _ (graph : List ℕ) (taken : graphFits graph ≡ true) (text : List ℕ) where
   next-scans : (scan : Scan) → next graph text scan ≡ scanOf (graphFrom graph) text scan

@@ -29,14 +29,14 @@ module _ (text : List ℕ) (at : ℕ) (R : Reading) (leaf end : ℕ) (e : record
   gives-none q = ap (entryOf text at) (sym e ∙ recorded-none leaf end q)
 
   module _ (n : leaf ≡ 255 → ⊥) where
-    as-found : entryOf text at R ≡ entryOf text at (some (record { leaf = leaf; end = end }))
-    as-found = ap (entryOf text at) (sym e ∙ recorded-some leaf end n)
+    as-recorded : entryOf text at R ≡ entryOf text at (some (record { leaf = leaf; end = end }))
+    as-recorded = ap (entryOf text at) (sym e ∙ recorded-some leaf end n)
 
     pub gives-empty : end ≡ 0 → entryOf text at R ≡ gapAt text at
-    gives-empty z = as-found ∙ rw (eq-eqb end 0 z)
+    gives-empty z = as-recorded ∙ rw (eq-eqb end 0 z)
 
     pub gives-token : (end ≡ 0 → ⊥) → entryOf text at R ≡ record { token = true; leaf = leaf; end = at + end }
-    gives-token z = as-found ∙ rw (ne-eqb end 0 z)
+    gives-token z = as-recorded ∙ rw (ne-eqb end 0 z)
 
 -- a token ends in the text
 pub token-within : (g : Graph) (text : List ℕ) (at leaf end : ℕ) → at ≤ length text → recorded leaf end ≡ readGraph g (drop at text) → (leaf ≡ 255 → ⊥)

@@ -60,7 +60,7 @@ module _ (g : Graph) (text : List ℕ) where
       go false = refl
   four-values HasEnded = refl
 
-  -- of graph words that 12 takes
+  -- of well-formed graph words (refusal 12)
   place-report : (place : Place) → scanReport (scanAt g text place .answer) ≡ answering (lowest (on (past text place) 14 ∷ on (over place) 16 ∷ [])) (scanValues g text place)
   place-report (ReadingAt offset) = go (ltb (length text) offset)
     where

@@ -38,7 +38,7 @@ pub fn put_entry(out: &mut [usize], n: usize, at: usize, e: Entry)
     out[i + 2] = leaf_word(e);
 }
 
-// Entries from an offset on, as many as there is room for, of graph words that 12 takes.
+// Entries from an offset on, as many as there is room for, of well-formed graph words (refusal 12).
 fn fill(graph: &[u16], text: &[u8], from: usize, out: &mut [usize]) -> Listed
     requires { ⌜ graphFits (now graph) ≡ true ⌝ }
     requires { ⌜ from ≤ length (now text) ⌝ }
@@ -69,7 +69,7 @@ fn fill(graph: &[u16], text: &[u8], from: usize, out: &mut [usize]) -> Listed
     }
 }
 
-// A text's tokens and gaps from a scan on, as many as there is room for; or 12, 14 or 16, and the scan and the buffer as they were.
+// A text's tokens and gaps from a scan on, as many as there is room for; or 12, 14 or 16, and the scan and the buffer unchanged.
 pub fn scan_list(scan: Scan, graph: &[u16], text: &[u8], out: &mut [usize]) -> Listed
     ensures { λ r. ⌜ (r ≡ scanList (now (graph .entry)) (now (text .entry)) scan (now (out .entry)) .listed) × (now (out .exit) ≡ scanList (now (graph .entry)) (now (text .entry)) scan (now (out .entry)) .buffer) ⌝ }
 {

@@ -72,8 +72,8 @@ pub fn entry_by(text: &[u8], at: usize, r: Record) -> Entry
     }
 }
 
-// The token or gap at an offset below the length, of graph words that 12 takes.
-pub fn read_entry(graph: &[u16], text: &[u8], at: usize) -> Entry
+// The token or gap at an offset below the length, of well-formed graph words (refusal 12).
+pub(crate) fn read_entry(graph: &[u16], text: &[u8], at: usize) -> Entry
     requires { ⌜ graphFits (now graph) ≡ true ⌝ }
     requires { ⌜ at < length (now text) ⌝ }
     ensures { λ r. ⌜ r ≡ entryOf (now (text .entry)) at (readGraph (graphFrom (now (graph .entry))) (drop at (now (text .entry)))) ⌝ }
@@ -101,8 +101,8 @@ fn scanned_by(at: usize, e: Entry) -> Scanned
     }
 }
 
-// The next answer, of graph words that 12 takes.
-pub fn step(scan: Scan, graph: &[u16], text: &[u8]) -> Scanned
+// The next answer, of well-formed graph words (refusal 12).
+fn step(scan: Scan, graph: &[u16], text: &[u8]) -> Scanned
     requires { ⌜ graphFits (now graph) ≡ true ⌝ }
     ensures { λ r. ⌜ r ≡ scanOf (graphFrom (now (graph .entry))) (now (text .entry)) scan ⌝ }
 {
@@ -142,7 +142,7 @@ impl Scan {
         }
     }
 
-    // The next token or gap of the text by the graph; or that the scan has ended; or 12, 14 or 16, and the scan as it was.
+    // The next token or gap of the text by the graph; or that the scan has ended; or 12, 14 or 16, and the scan unchanged.
     pub fn next(self, graph: &[u16], text: &[u8]) -> Scanned
         ensures { λ r. ⌜ r ≡ next (now (graph .entry)) (now (text .entry)) self ⌝ }
     {

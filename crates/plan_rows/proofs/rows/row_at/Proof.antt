@@ -36,7 +36,7 @@ edge-word-requires : tie.Need-edge-word-requires
 edge-word-requires c κs =
     let o = c .before .before .before in
     let s = start o in
-    let below = low-below (g o) (s .args .s) (o .before .fork-at .ensures) (c .if2 .left) in
+    let below = low-below (g o) (s .args .s) (o .before .fork-at .ensures) (omega (arith, from-length (s .args .graph .now), s .pre .1 .0)) in
     (s .pre .0, (s .pre .1 .0, (omega (arith, below, from-length (s .args .graph .now)), s .pre .1 .1)))
 
 returns-3 : tie.Need-returns-3
@@ -50,7 +50,7 @@ edge-word-requires-2 c κs =
     let e = c .before .before in
     let o = e .before .before .before .before in
     let s = start o in
-    let below = high-below (g o) (s .args .s) (o .before .fork-at .ensures) (omega (arith, c .if3 .left, e .before .if2 .left)) in
+    let below = high-below (g o) (s .args .s) (o .before .fork-at .ensures) (omega (arith, from-length (s .args .graph .now), s .pre .1 .0)) in
     (s .pre .0, (s .pre .1 .0, (omega (arith, below, from-length (s .args .graph .now)), s .pre .1 .1)))
 
 returns-4 : tie.Need-returns-4

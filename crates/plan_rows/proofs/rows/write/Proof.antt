@@ -1,4 +1,4 @@
--- The loop's invariant: the rows of the states below s stand in front, and the rest is as found. The measure is the states left. Assumes nothing.
+-- The loop's invariant: the rows of the states below s stand in front, and the rest is unchanged. The measure is the states left. Assumes nothing.
 use mathlib.Core.List.{flatMap}
 use Prim.Native.Nat.{_+_, _*_, _-_, _≤_, _<_}
 use native.Mathlib.Omega.{arith}

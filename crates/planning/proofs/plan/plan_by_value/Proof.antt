@@ -9,12 +9,13 @@ use Rattle.graph_rules.proofs.Taken.{taken-long}
 use Rattle.graph_rules.specs.Graph.{graphFrom, graphFits}
 use Rattle.mask_store.specs.Masks.{grown, takes}
 use Rattle.plan_rules.specs.Plan.{base, needs as needed, planSize}
-use Rattle.planning.proofs.Planning.{size-is, grow-taken, grow-store, plan-unfit, plan-short, plan-full, after-more, after-fits, plan-made, outcome}
+use Rattle.plan_rows.proofs.Growing.{was-taken, was-refused, store-grown}
+use Rattle.planning.proofs.Planning.{size-is, plan-unfit, plan-short, plan-full, after-more, after-fits, plan-made, outcome}
 use borrow.Author.Needs.{needs}
 use Rattle.planning.proofs.plan.plan_by_value.Statement.{statement}
 use Rattle.planning.proofs.plan.plan_by_value.Tie as tie
 
--- 12 takes the graph
+-- the graph words are well-formed
 fitting : (c : tie.Else1) → graphFits (c .before .before .before .before .args .graph .now) ≡ true
 fitting c = sym (c .before .fits2 .ensures) ∙ not-false _ (c .if1 .left)
 
@@ -28,13 +29,13 @@ roomy c =
 took : (c : tie.Else3) → let a = c .before .before .before .before .before .before .before .before .before .args in takes (a .store) (needed base (graphFrom (a .graph .now))) ≡ true
 took c =
     let at = c .before .before in
-    grow-taken (at .before .before .before .before .before .before .before .args .store) _ (at .grow .result) (at .grow .ensures) _ (not-false _ (c .if3 .left))
+    was-taken (at .before .before .before .before .before .before .before .args .store) _ (at .grow .ensures) (not-false _ (c .if3 .left))
 
 stored : (c : tie.Else3) → let a = c .before .before .before .before .before .before .before .before .before .args in
     c .before .before .grow .result .store ≡ grown (a .store) (needed base (graphFrom (a .graph .now)))
 stored c =
     let at = c .before .before in
-    grow-store (at .before .before .before .before .before .before .before .args .store) _ (at .grow .result) (at .grow .ensures) (not-false _ (c .if3 .left))
+    store-grown (at .before .before .before .before .before .before .before .args .store) _ (at .grow .ensures) (not-false _ (c .if3 .left))
 
 sized : (c : tie.Else3) → length (c .before .before .before .before .before .before .before .before .before .args .store .tables) ≡ 2048
 sized c = search needs
@@ -80,7 +81,7 @@ returns-3 : tie.Need-returns-3
 returns-3 c =
     let at = c .before .before .before in
     let a = at .before .before .before .before .before .before .before .args in
-    let t = grow-taken (a .store) _ (at .grow .result) (at .grow .ensures) _ (not-true _ (c .before .if3 .taken)) in
+    let t = was-refused (a .store) _ (at .grow .ensures) (not-true _ (c .before .if3 .taken)) in
     let e = outcome (plan-full (a .graph .now) (a .out .now) (a .store) (fitting (at .before .before .before)) (roomy (at .before)) t) in
     (c .refused3 .ensures ∙ e .0, e .1)
 

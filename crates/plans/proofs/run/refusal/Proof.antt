@@ -9,7 +9,8 @@ use Rattle.graph_rules.proofs.Taken.{taken-long}
 use Rattle.graph_rules.specs.Graph.{graphFrom}
 use Rattle.mask_store.specs.Masks.{grown, takes}
 use Rattle.plan_rules.specs.Plan.{base, needs as needed, planSize}
-use Rattle.planning.proofs.Planning.{size-is, grow-taken, grow-store}
+use Rattle.plan_rows.proofs.Growing.{was-taken, was-refused, store-grown}
+use Rattle.planning.proofs.Planning.{size-is}
 use Rattle.plans.proofs.Running.{count-few, plan-short, plan-full, plan-lacks, plan-differs, plan-taken}
 use borrow.Author.Needs.{needs}
 use Rattle.plans.proofs.run.refusal.Statement.{statement}
@@ -23,13 +24,13 @@ long c = omega (arith, size-is (c .before .before .before .before .args .graph .
 took : (c : tie.Else2) → let a = c .before .before .before .before .before .before .before .args in takes (a .store) (needed base (graphFrom (a .graph .now))) ≡ true
 took c =
     let at = c .before .before in
-    grow-taken (at .before .before .before .before .before .args .store) _ (at .grow .result) (at .grow .ensures) _ (not-false _ (c .if2 .left))
+    was-taken (at .before .before .before .before .before .args .store) _ (at .grow .ensures) (not-false _ (c .if2 .left))
 
 stored : (c : tie.Else2) → let a = c .before .before .before .before .before .before .before .args in
     c .before .before .grow .result .store ≡ grown (a .store) (needed base (graphFrom (a .graph .now)))
 stored c =
     let at = c .before .before in
-    grow-store (at .before .before .before .before .before .args .store) _ (at .grow .result) (at .grow .ensures) (not-false _ (c .if2 .left))
+    store-grown (at .before .before .before .before .before .args .store) _ (at .grow .ensures) (not-false _ (c .if2 .left))
 
 word-requires : tie.Need-word-requires
 word-requires c κs =
@@ -50,7 +51,7 @@ returns-2 : tie.Need-returns-2
 returns-2 c =
     let at = c .before .before in
     let a = at .before .before .before .before .before .args in
-    sym (plan-full (graphFrom (a .graph .now)) (a .plan .now) (a .store) (long (at .before)) (grow-taken (a .store) _ (at .grow .result) (at .grow .ensures) _ (not-true _ (c .if2 .taken))))
+    sym (plan-full (graphFrom (a .graph .now)) (a .plan .now) (a .store) (long (at .before)) (was-refused (a .store) _ (at .grow .ensures) (not-true _ (c .if2 .taken))))
 
 returns-3 : tie.Need-returns-3
 returns-3 c =

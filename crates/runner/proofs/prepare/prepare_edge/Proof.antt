@@ -1,4 +1,4 @@
--- The edge's 12 bytes are written where it is there, no table is used and it is tested by comparisons; else all is as it was. Assumes nothing.
+-- The edge's 12 bytes are written where it is there, no table is used and it is tested by comparisons; else all is unchanged. Assumes nothing.
 use borrow.Author.Needs.{needs}
 use mathlib.Core.Path.{_≡_, sym, ap, _∙_}
 use mathlib.Core.Bool.{false, false≢true}

@@ -42,9 +42,6 @@ module _ (graph : List ℕ) (legal : graphFits graph ≡ true) where
           here : (word ≡ u) × (word ≡ 65535 → ⊥) → (word < getD graph 0 0) ⊎ (word ≡ 65535) → u < length (graphFrom graph .states)
           here w (inl k) = let e : word ≡ u = w .0 in omega (arith, from-length graph)
           here w (inr k) = absurd (w .1 k)
-
-  pub legal-few : length (graphFrom graph .states) ≤ 1024
-  legal-few = omega (arith, taken-few graph legal, from-length graph)
 
   -- the root is a state, or there are none
   pub legal-root : (graphFrom graph .root < length (graphFrom graph .states)) ⊎ (length (graphFrom graph .states) ≡ 0)
