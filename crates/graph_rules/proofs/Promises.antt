@@ -21,6 +21,7 @@ use Rattle.graph_rules.proofs.Unpruned.{reached-start, un-facts}
 use Rattle.graph_rules.proofs.Reached.{kept-reached, un-root, un-root-within}
 use Rattle.graph_rules.proofs.Fits.{Fits, build-fits}
 use Rattle.graph_rules.proofs.Words.{buffer-length, graph-back, state-back, words-taken}
+use Rattle.graph_rules.specs.Layout.{endStep, stepCount, graphSize}
 
 -- ---- no equal states
 
@@ -78,9 +79,9 @@ module _ (t : Table) (orderly : Orderly t) where
   -- a walk that starts at state 0 reads none
   zero-walk : (text : List ℕ) → Bytes text → walk (tableWalker t) 0 0 none text ≡ none
   unfolding tableWalker
-  zero-walk [] bytes = rw (orderly .zero-steps 256 (omega arith)) (late-zero (leafOf t 0))
+  zero-walk [] bytes = rw (orderly .zero-steps endStep (omega arith)) (late-zero (leafOf t 0))
   zero-walk (b ∷ text) bytes =
-      let h : b < 257 = let h′ : b < 256 = bytes 0 in omega arith in
+      let h : b < stepCount = let h′ : b < 256 = bytes 0 in omega arith in
       rw (orderly .zero-steps b h) (late-zero (leafOf t 0))
 
   table-walk : (s₀ : ℕ) → t .start ≡ some s₀ → (text : List ℕ) → Bytes text → readTable t text ≡ walk (tableWalker t) s₀ 0 none text
@@ -157,7 +158,7 @@ module _ (words : List ℕ) (legal : refusal words ≡ 0) where
   pub built-back : (rest : List ℕ) → graphFrom (graphWords built ++ rest) ≡ built
   built-back rest = graph-back (getD words 2 0) (getD words 0 0) (few-leaves words legal) (few-states words legal) built fits rest
 
-  pub built-length : length (graphBuffer (getD words 0 0) built) ≡ 2 + 258 * getD words 0 0
+  pub built-length : length (graphBuffer (getD words 0 0) built) ≡ graphSize (getD words 0 0)
   built-length = buffer-length (getD words 2 0) (getD words 0 0) (few-leaves words legal) (few-states words legal) built fits
 
   -- no two states have the same 258 words
