@@ -18,4 +18,3 @@ pub mod Flat
 pub mod Taken
 pub mod Cleanness
 pub mod Promises
-pub mod Legal

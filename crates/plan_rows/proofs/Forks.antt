@@ -10,7 +10,7 @@ use lib.Dec.{eqb, ltb}
 use lib.ListN.{length, getD, length-append, List·getD-eq-default}
 use Rattle.lists.specs.Lists.{below, anyL, allL, those}
 use Rattle.lists.proofs.Bools.{lt-or-le}
-use Rattle.lists.proofs.Elements.{length-tab, getD-tab0, all-at, all-intro, eqb-sound}
+use Rattle.lists.proofs.Elements.{length-tab, getD-tab0, all-at, all-intro}
 use Rattle.lists.proofs.Those.{those-keep, those-more, those-same}
 use Rattle.graph_rules.specs.Graph.{State, Graph, stateOf, graphFrom}
 use Rattle.graph_rules.proofs.Flat.{from-length}

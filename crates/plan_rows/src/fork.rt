@@ -24,7 +24,7 @@ pub fn fork_at(graph: &[u16], s: usize) -> Fork
     ensures { λ r. ⌜ r ≡ forkOf (graphFrom (now (graph .entry))) s ⌝ }
 {
     let leads = edges::targets(graph, s);
-    let n = words::word(graph, 0);
+    let n = words::graph::states(graph);
     let mut count: usize = 0;
     let mut low: usize = 0;
     let mut high: usize = 0;

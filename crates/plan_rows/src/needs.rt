@@ -131,7 +131,7 @@ pub fn grow(graph: &[u16], store: MaskStore) -> Grown
             store: store,
         };
     }
-    let n = words::word(graph, 0);
+    let n = words::graph::states(graph);
     let mut held = store;
     let mut s: usize = 0;
     while s < n {

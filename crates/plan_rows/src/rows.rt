@@ -19,7 +19,7 @@ use crate::way::way_to;
 use edges::class_to;
 use mask_store::tables::number_from;
 use plan_rules::Way;
-use words::word;
+use words::graph::states;
 
 // ---- one state
 
@@ -88,7 +88,7 @@ pub fn write(graph: &[u16], plan: &mut [u16], tables: &[u8; 2048], count: usize)
     requires { ⌜ (count ≤ 64) × (length (now tables) ≡ 2048) ⌝ }
     ensures { λ _. ⌜ now (plan .exit) ≡ planWords base (held (storeOf (now (tables .entry)) count)) (graphFrom (now (graph .entry))) ++ drop (planSize base (graphFrom (now (graph .entry)))) (now (plan .entry)) ⌝ }
 {
-    let n = word(graph, 0);
+    let n = states(graph);
     let mut s: usize = 0;
     while s < n {
         let row = row_at(graph, s, tables, count);
@@ -104,7 +104,7 @@ pub fn agrees(graph: &[u16], plan: &[u16], tables: &[u8; 2048], count: usize) ->
     requires { ⌜ (count ≤ 64) × (length (now tables) ≡ 2048) ⌝ }
     ensures { λ r. ⌜ r ≡ eqList eqb (take (planSize base (graphFrom (now (graph .entry)))) (now (plan .entry))) (planWords base (held (storeOf (now (tables .entry)) count)) (graphFrom (now (graph .entry)))) ⌝ }
 {
-    let n = word(graph, 0);
+    let n = states(graph);
     let mut s: usize = 0;
     while s < n {
         let row = row_at(graph, s, tables, count);

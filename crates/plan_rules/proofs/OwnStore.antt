@@ -5,8 +5,9 @@ use mathlib.Core.List.{List, [], _∷_, flatMap}
 use Prim.Native.Nat.{ℕ, _≤_, _<_}
 use native.Mathlib.Omega.{arith}
 use borrow.Author.Tests.{eq-eqb, leb-true}
+use lib.Dec.{eqb}
 use lib.ListN.{length}
-use Rattle.lists.specs.Lists.{below, allL}
+use Rattle.lists.specs.Lists.{below, anyL, allL}
 use Rattle.lists.proofs.Bools.{and-both, and-intro}
 use Rattle.lists.proofs.Elements.{all-at}
 use Rattle.graph_rules.specs.Graph.{State, Graph, stateOf, graphFrom, graphFits}
@@ -20,12 +21,14 @@ use Rattle.plan_rules.specs.declared.Way.{Way}
 use Rattle.plan_rules.specs.declared.Way.the-variants.{BySelf, ByTests, ByMask}
 use Rattle.plan_rules.specs.Plan.{Settings, byTable, wayTo, masked, selfNeeds, edgeNeeds, stateNeeds, needs, holdsPlan}
 use Rattle.lists.proofs.Flattened.{append-all, all-flat, all-flat-tab}
-use Rattle.graph_rules.proofs.Legal.{legal-width}
+use Rattle.graph_rules.specs.Layout.{stepCount}
+use Rattle.graph_rules.proofs.Flat.{from-length, from-width}
+use Rattle.graph_rules.proofs.Taken.{taken-long}
 use Rattle.plan_rules.proofs.Holding.{HeldAs, holds-shown}
 
--- ---- the classes that a state of 257 steps needs have 256 flags
+-- ---- the classes that a state needs have 256 flags, if it has all its steps
 
-module _ (set : Settings) (st : State) (width : length (st .steps) ≡ 257) where
+module _ (set : Settings) (st : State) (width : length (st .steps) ≡ stepCount) where
   one-whole : (u : ℕ) → allL whole (classTo st u ∷ []) ≡ true
   one-whole u = and-intro (whole (classTo st u)) _ (eq-eqb _ 256 (class-whole st (omega arith) u)) refl
 
@@ -55,9 +58,9 @@ module _ (set : Settings) (graph : List ℕ) (legal : graphFits graph ≡ true) 
   state-whole : (s : ℕ) → s < length (g .states) → allL whole (stateNeeds set g s) ≡ true
   unfolding stateNeeds selfNeeds
   state-whole s h =
-      let w = legal-width graph legal s h in
-      append-all whole (selfNeeds (stateOf g s) s (targets (length (g .states)) (stateOf g s))) _
-      (own-whole set (stateOf g s) w s _) (edges-whole set (stateOf g s) w s _)
+      let w = from-width graph (taken-long graph legal) s (omega (arith, from-length graph)) in
+      let ts = targets (length (g .states)) (stateOf g s) in
+      append-all whole (selfNeeds (stateOf g s) s ts) _ (own-whole set (stateOf g s) w s (anyL (eqb s) ts)) (edges-whole set (stateOf g s) w s ts)
 
   -- of the states below s
   pub whole-below : (s : ℕ) → s ≤ length (g .states) → allL whole (flatMap (stateNeeds set g) (below s)) ≡ true

@@ -34,7 +34,7 @@ pub fn plan_by_value(graph: &[u16], out: &mut [u16], store: MaskStore) -> Planni
     if !words::graph::fits(graph) {
         return refused(12, store);
     }
-    let states = words::word(graph, 0);
+    let states = words::graph::states(graph);
     if out.len() < plan_rows::layout::ROW * states {
         return refused(14, store);
     }

@@ -3,7 +3,7 @@ use mathlib.Core.Path.{_≡_, refl, sym, ap, subst, _∙_}
 use mathlib.Core.Bool.{true, false}
 use mathlib.Core.List.{List, [], _∷_, _++_, map}
 use mathlib.Core.Logic.{_⊎_, inl, inr}
-use Prim.Native.Nat.{ℕ, zero, suc, _+_, _-_, _*_, _≤_, _<_}
+use Prim.Native.Nat.{ℕ, zero, suc, _+_, _-_, _≤_, _<_}
 use native.Mathlib.Omega.{arith}
 use native.Mathlib.Nat.{not-suc-le-zero, le-of-suc-le-suc}
 use borrow.Author.Tests.{eqb-true, eq-eqb, ne-eqb, leb-true, ltb-true}
@@ -18,11 +18,11 @@ use Rattle.classes.specs.Classes.{Class, comparisons}
 use Rattle.edges.specs.Edges.{classTo}
 use Rattle.plan_rules.specs.declared.Way.{Way}
 use Rattle.plan_rules.specs.declared.Way.the-variants.{BySelf, ByTests, ByMask}
-use Rattle.plan_rules.specs.Plan.{base, tableWord, byTable, wayTo, wayWord, edgeWords, planRow, planSize}
+use Rattle.plan_rules.specs.Plan.{base, tableWord, rowSize, ownPlace, edgePlace, byTable, wayTo, wayWord, edgeWords, planRow, planSize}
 use Rattle.plan_rules.specs.Run.{selfOf, saysTable, along, ledBy, edgeHeld, rowHeld, rowsOf}
 use Rattle.plan_rules.proofs.Edges.{no-table-word}
 use Rattle.plan_rules.proofs.RunIsWalk.{base-sane, row-length, row-at, rows-are}
-use Rattle.runner.specs.Prepared.{targetsOf, testsAt, Prepared, PlanOn}
+use Rattle.runner.specs.Prepared.{targetsOf, testsAt, edgeAt, Prepared, PlanOn}
 
 three : (l : List ℕ) → length l ≡ 3 → drop 1 l ≡ getD l 1 0 ∷ getD l 2 0 ∷ []
 three [] e = absurd (omega arith)
@@ -71,35 +71,35 @@ module _ (g : Graph) (words : List ℕ) (p : PlanOn g words) (s : ℕ) (h : s < 
       ∙ rows-are base base-sane (p .all) g (drop (planSize base g) words))
       ∙ row-at base base-sane (p .all) g s h
 
-  row-word : (j : ℕ) → j < 3 → getD row j 0 ≡ getD words (3 * s + j) 0
+  row-word : (j : ℕ) → j < rowSize base → getD row j 0 ≡ getD words (ownPlace base s + j) 0
   unfolding rowsOf
-  row-word j l = pieces-at 3 (length (g .states)) words s j 0 h l
+  row-word j l = pieces-at (rowSize base) (length (g .states)) words s j 0 h l
 
-  row-edges : drop 1 row ≡ getD words (3 * s + 1) 0 ∷ getD words (3 * s + 2) 0 ∷ []
+  row-edges : drop 1 row ≡ getD words (edgePlace base s 0) 0 ∷ getD words (edgePlace base s 1) 0 ∷ []
   row-edges =
       three row (ap length row-is ∙ row-length base base-sane (p .all) g s)
-      ∙ ap (λ (x : ℕ). x ∷ getD row 2 0 ∷ []) (row-word 1 (omega arith)) ∙ ap (λ (x : ℕ). getD words (3 * s + 1) 0 ∷ x ∷ []) (row-word 2 (omega arith))
+      ∙ ap (λ (x : ℕ). x ∷ getD row 2 0 ∷ []) (row-word 1 (omega arith)) ∙ ap (λ (x : ℕ). getD words (edgePlace base s 0) 0 ∷ x ∷ []) (row-word 2 (omega arith))
 
   row-held : rowHeld 64 row ≡ true
   unfolding rowsOf
-  row-held = all-at (rowHeld 64) (rowsOf base g words) s [] (p .held) (subst (λ (m : ℕ). s < m) (sym (pieces-length 3 (length (g .states)) words)) h)
+  row-held = all-at (rowHeld 64) (rowsOf base g words) s [] (p .held) (subst (λ (m : ℕ). s < m) (sym (pieces-length (rowSize base) (length (g .states)) words)) h)
 
-  pub self-word : selfOf row ≡ getD words (3 * s) 0
+  pub self-word : selfOf row ≡ getD words (ownPlace base s) 0
   self-word = row-word 0 (omega arith) ∙ ap (λ (x : ℕ). getD words x 0) (omega arith)
 
-  pub self-few : getD words (3 * s) 0 ≤ 64
+  pub self-few : getD words (ownPlace base s) 0 ≤ 64
   self-few = subst (λ (x : ℕ). x ≤ 64) self-word (leb-true _ _ (and-both (leb (selfOf row) 64) _ row-held .0))
 
   -- ---- a table
 
-  pub led-table : (tables : List ℕ) (b : ℕ) → getD words (3 * s + 1) 0 ≡ tableWord → ledBy g row tables s b ≡ to g s b
+  pub led-table : (tables : List ℕ) (b : ℕ) → getD words (edgePlace base s 0) 0 ≡ tableWord → ledBy g row tables s b ≡ to g s b
   unfolding ledBy
   led-table tables b e = let t : saysTable row ≡ true = eq-eqb _ _ (row-word 1 (omega arith) ∙ e) in rw (t, ledBy)
 
   -- ---- edges
 
-  module _ (plain : getD words (3 * s + 1) 0 ≡ tableWord → ⊥) where
-    pub led-edges : (tables : List ℕ) (b : ℕ) → ledBy g row tables s b ≡ along tables (stateOf g s) ts (getD words (3 * s + 1) 0 ∷ getD words (3 * s + 2) 0 ∷ []) b
+  module _ (plain : getD words (edgePlace base s 0) 0 ≡ tableWord → ⊥) where
+    pub led-edges : (tables : List ℕ) (b : ℕ) → ledBy g row tables s b ≡ along tables (stateOf g s) ts (getD words (edgePlace base s 0) 0 ∷ getD words (edgePlace base s 1) 0 ∷ []) b
     unfolding ledBy
     led-edges tables b =
         let t : saysTable row ≡ false = ne-eqb _ _ (λ e. plain (sym (row-word 1 (omega arith)) ∙ e)) in
@@ -117,20 +117,20 @@ module _ (g : Graph) (words : List ℕ) (p : PlanOn g words) (s : ℕ) (h : s < 
         go (no-is q) = q
         go (yes-is q) = absurd (plain (sym (row-word 1 (omega arith)) ∙ ap (λ (r : List ℕ). getD r 1 0) row-is ∙ first q))
 
-    edge-word : (j : ℕ) → j < 2 → getD words (3 * s + suc j) 0 ≡ getD (map word ts ++ replicate (2 - length ts) 0) j 0
+    edge-word : (j : ℕ) → j < base .edges → getD words (edgePlace base s j) 0 ≡ getD (map word ts ++ replicate (base .words - length ts) 0) j 0
     unfolding planRow edgeWords
     edge-word j l =
-        let e : getD (planRow base (p .all) g s) (suc j) 0 ≡ getD (map word ts ++ replicate (2 - length ts) 0) j 0 = rw no-table in
+        let e : getD (planRow base (p .all) g s) (suc j) 0 ≡ getD (map word ts ++ replicate (base .words - length ts) 0) j 0 = rw no-table in
         sym (row-word (suc j) (omega arith)) ∙ ap (λ (r : List ℕ). getD r (suc j) 0) row-is ∙ e
 
-    pub edge-absent : (j : ℕ) → j < 2 → length ts ≤ j → getD words (3 * s + suc j) 0 ≡ 0
-    edge-absent j l a = edge-word j l ∙ padded-out word (2 - length ts) ts j a
+    pub edge-absent : (j : ℕ) → j < base .edges → length ts ≤ j → getD words (edgePlace base s j) 0 ≡ 0
+    edge-absent j l a = edge-word j l ∙ padded-out word (base .words - length ts) ts j a
 
-    pub edge-few : (j : ℕ) → j < 2 → getD words (3 * s + suc j) 0 < 66
+    pub edge-few : (j : ℕ) → j < base .edges → getD words (edgePlace base s j) 0 < 66
     edge-few j l = go (lt-or-le j (length ts)) (or-cases (ltb w 66) _ held)
       where
         w : ℕ
-        w = getD words (3 * s + suc j) 0
+        w = getD words (edgePlace base s j) 0
 
         held : edgeHeld 64 w ≡ true
         held =
@@ -141,18 +141,18 @@ module _ (g : Graph) (words : List ℕ) (p : PlanOn g words) (s : ℕ) (h : s < 
         go : (j < length ts) ⊎ (length ts ≤ j) → (ltb w 66 ≡ true) ⊎ (eqb w tableWord ≡ true) → w < 66
         go a (inl b) = ltb-true _ _ b
         go (inl a) (inr b) =
-            let e : w ≡ word (getD ts j 0) = edge-word j l ∙ padded-in word (2 - length ts) ts j a in
+            let e : w ≡ word (getD ts j 0) = edge-word j l ∙ padded-in word (base .words - length ts) ts j a in
             let k : word (getD ts j 0) < tableWord = no-table-word (p .all) (p .few) (wayTo base (stateOf g s) s (getD ts j 0)) (classTo (stateOf g s) (getD ts j 0)) in
             let z : w ≡ tableWord = eqb-true _ _ b in
             absurd (omega arith)
         go (inr a) (inr b) = let e = edge-absent j l a in omega arith
 
     module _ (ends tests : List ℕ) (made : Prepared g ends tests) where
-      pub edge-compared : (j : ℕ) → j < 2 → getD words (3 * s + suc j) 0 ≡ 1 → testsAt tests (2 * s + j) ≡ comparisons (classTo (stateOf g s) (getD ts j 0))
+      pub edge-compared : (j : ℕ) → j < base .edges → getD words (edgePlace base s j) 0 ≡ 1 → testsAt tests (edgeAt s j) ≡ comparisons (classTo (stateOf g s) (getD ts j 0))
       edge-compared j l e = go (lt-or-le j (length ts))
         where
-          go : (j < length ts) ⊎ (length ts ≤ j) → testsAt tests (2 * s + j) ≡ comparisons (classTo (stateOf g s) (getD ts j 0))
+          go : (j < length ts) ⊎ (length ts ≤ j) → testsAt tests (edgeAt s j) ≡ comparisons (classTo (stateOf g s) (getD ts j 0))
           go (inl a) =
               made .tests-are s j h l no-table a
-              (one-tests (p .all) (wayTo base (stateOf g s) s (getD ts j 0)) (classTo (stateOf g s) (getD ts j 0)) (sym (padded-in word (2 - length ts) ts j a) ∙ sym (edge-word j l) ∙ e))
+              (one-tests (p .all) (wayTo base (stateOf g s) s (getD ts j 0)) (classTo (stateOf g s) (getD ts j 0)) (sym (padded-in word (base .words - length ts) ts j a) ∙ sym (edge-word j l) ∙ e))
           go (inr a) = let z = edge-absent j l a in absurd (omega arith)

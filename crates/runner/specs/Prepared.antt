@@ -6,6 +6,7 @@ use mathlib.Core.List.{List}
 use Prim.Native.Nat.{ℕ, _+_, _*_, _<_, _≤_}
 use lib.ListN.{length, getD, take, drop}
 use Rattle.lists.specs.Lists.{allL}
+use Rattle.graph_rules.specs.Layout.{mostStates}
 use Rattle.graph_rules.specs.Graph.{Graph, stateOf}
 use Rattle.classes.specs.Classes.{Class, Comparison, comparisons}
 use Rattle.classes.specs.ClassAnswers.{listed}
@@ -15,10 +16,16 @@ use Rattle.plan_rules.specs.Plan.{base, byTable, wayTo, planWords, planSize}
 use Rattle.plan_rules.specs.Run.{rowHeld, rowsOf}
 
 -- the comparisons of edge e, in 12 bytes: their number, three firsts, three lasts, three numbers of exceptions, two exceptions
+abbrev pub slotBytes : ℕ
+slotBytes = 12
+
+abbrev pub slot : ℕ → ℕ
+slot e = slotBytes * e
+
 unfoldable pub testsAt : List ℕ → ℕ → List Comparison
 testsAt tests e =
-    listed (getD tests (12 * e) 0) (take 3 (drop (12 * e + 1) tests)) (take 3 (drop (12 * e + 4) tests)) (take 3 (drop (12 * e + 7) tests))
-    (take 2 (drop (12 * e + 10) tests))
+    listed (getD tests (slot e) 0) (take 3 (drop (slot e + 1) tests)) (take 3 (drop (slot e + 4) tests)) (take 3 (drop (slot e + 7) tests))
+    (take 2 (drop (slot e + 10) tests))
 
 -- the targets of state s, ascending
 abbrev pub targetsOf : Graph → ℕ → List ℕ
@@ -31,6 +38,13 @@ edgeClass g s j = classTo (stateOf g s) (getD (targetsOf g s) j 0)
 -- where its edge j stands: as many edges a state as are tested without a table
 abbrev pub edgeAt : ℕ → ℕ → ℕ
 edgeAt s j = base .edges * s + j
+
+-- how many edges of all states there may be, and the bytes of their comparisons
+abbrev pub edgesSize : ℕ
+edgesSize = base .edges * mostStates
+
+abbrev pub testsSize : ℕ
+testsSize = slotBytes * edgesSize
 
 pub record Prepared (g : Graph) (ends tests : List ℕ) : Type 0 where
   pub ends-are : (s j : ℕ) → s < length (g .states) → j < base .edges → getD ends (edgeAt s j) 0 ≡ getD (targetsOf g s) j 0

@@ -30,7 +30,7 @@ fn self_run(tables: &[u8; 2048], i: usize, text: &[u8], from: usize) -> usize
 
 // Where the run of state s stands after its self run: at its first other byte, or where it was if the plan names no self mask.
 pub(crate) fn passed(plan: &[u16], tables: &[u8; 2048], s: usize, text: &[u8], from: usize) -> usize
-    requires { ⌜ (s < 1024) × (ownPlace base s < length (now plan)) × (getD (now plan) (ownPlace base s) 0 ≤ 64) × (from ≤ length (now text)) × (length (now tables) ≡ 2048) ⌝ }
+    requires { ⌜ (ownPlace base s < length (now plan)) × (getD (now plan) (ownPlace base s) 0 ≤ 64) × (from ≤ length (now text)) × (length (now tables) ≡ 2048) ⌝ }
     ensures { λ r. ⌜ (from ≤ r) × (r ≤ length (now (text .entry))) ⌝ }
     ensures passes { λ r. ⌜ ((j : ℕ) → j < r → from ≤ j → selfTakes (now (tables .entry)) (getD (now (plan .entry)) (ownPlace base s) 0) (getD (now (text .entry)) j 0) ≡ true) ⌝ }
     ensures stops { λ r. ⌜ (r < length (now (text .entry)) → selfTakes (now (tables .entry)) (getD (now (plan .entry)) (ownPlace base s) 0) (getD (now (text .entry)) r 0) ≡ false) ⌝ }

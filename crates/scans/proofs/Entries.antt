@@ -8,6 +8,7 @@ use native.Mathlib.Omega.{arith}
 use borrow.Author.Tests.{eq-eqb, ne-eqb, lt-ltb, le-ltb}
 use lib.ListN.{length, take, drop, length-drop}
 use lib.Seq.{take-all}
+use Rattle.graph_rules.specs.Layout.{noLeaf}
 use Rattle.graph_rules.specs.Graph.{Graph, graphFrom, graphFits}
 use Rattle.graph_rules.specs.Read.{Reading, readGraph}
 use Rattle.readings.specs.Answers.{recorded}
@@ -25,10 +26,10 @@ pub part-is : (text : List ℕ) (at : ℕ) → take (length text - at) (drop at 
 part-is text at = take-all (length text - at) (drop at text) (let l = length-drop at text in omega arith)
 
 module _ (text : List ℕ) (at : ℕ) (R : Reading) (leaf end : ℕ) (e : recorded leaf end ≡ R) where
-  pub gives-none : leaf ≡ 255 → entryOf text at R ≡ gapAt text at
+  pub gives-none : leaf ≡ noLeaf → entryOf text at R ≡ gapAt text at
   gives-none q = ap (entryOf text at) (sym e ∙ recorded-none leaf end q)
 
-  module _ (n : leaf ≡ 255 → ⊥) where
+  module _ (n : leaf ≡ noLeaf → ⊥) where
     as-recorded : entryOf text at R ≡ entryOf text at (some (record { leaf = leaf; end = end }))
     as-recorded = ap (entryOf text at) (sym e ∙ recorded-some leaf end n)
 
@@ -39,7 +40,7 @@ module _ (text : List ℕ) (at : ℕ) (R : Reading) (leaf end : ℕ) (e : record
     gives-token z = as-recorded ∙ rw (ne-eqb end 0 z)
 
 -- a token ends in the text
-pub token-within : (g : Graph) (text : List ℕ) (at leaf end : ℕ) → at ≤ length text → recorded leaf end ≡ readGraph g (drop at text) → (leaf ≡ 255 → ⊥)
+pub token-within : (g : Graph) (text : List ℕ) (at leaf end : ℕ) → at ≤ length text → recorded leaf end ≡ readGraph g (drop at text) → (leaf ≡ noLeaf → ⊥)
     → at + end ≤ length text
 token-within g text at leaf end h e n =
     go (subst (λ (r : Reading). Upto (length (drop at text)) r) (sym e ∙ recorded-some leaf end n) (reads-upto g (drop at text)))

@@ -3,11 +3,13 @@ ghost use mathlib.Core.Path.{_≡_};
 ghost use mathlib.Core.Bool.{true};
 ghost use Prim.Native.Nat.{_+_, _<_, _≤_};
 ghost use lib.ListN.{length, drop};
+ghost use Rattle.graph_rules.specs.Layout.{noLeaf};
 ghost use Rattle.graph_rules.specs.Graph.{graphFits, graphFrom};
 ghost use Rattle.graph_rules.specs.Read.{readGraph};
 ghost use Rattle.readings.specs.Answers.{recorded};
 ghost use Rattle.scans.specs.Scan.{fresh, gapAt, entryOf, scannedBy, scanOf, next};
 use readings::read::Record;
+use words::graph::NO_LEAF;
 
 pub enum Place {
     Reading(usize),
@@ -55,10 +57,10 @@ fn gap(text: &[u8], at: usize) -> Entry
 // The token or gap at an offset below the length, by the last record of a reading from there on, which ends in the text.
 pub fn entry_by(text: &[u8], at: usize, r: Record) -> Entry
     requires { ⌜ at < length (now text) ⌝ }
-    requires { ⌜ ((r .leaf ≡ 255 → ⊥) → at + r .end ≤ length (now text)) ⌝ }
+    requires { ⌜ ((r .leaf ≡ noLeaf → ⊥) → at + r .end ≤ length (now text)) ⌝ }
     ensures { λ e. ⌜ e ≡ entryOf (now (text .entry)) at (recorded (r .leaf) (r .end)) ⌝ }
 {
-    if r.leaf == 255 {
+    if r.leaf == NO_LEAF {
         return gap(text, at);
     }
     if r.end == 0 {

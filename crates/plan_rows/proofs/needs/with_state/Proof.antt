@@ -10,12 +10,13 @@ use lib.ListN.{length}
 use Rattle.lists.specs.Lists.{allL}
 use Rattle.classes.specs.Classes.{Class}
 use Rattle.graph_rules.specs.Graph.{Graph, graphFrom, stateOf}
-use Rattle.graph_rules.proofs.Flat.{from-length}
+use Rattle.graph_rules.proofs.Flat.{from-length, from-width}
 use Rattle.edges.specs.Edges.{targets}
 use Rattle.mask_store.specs.declared.MaskStore.{MaskStore}
 use Rattle.mask_store.specs.Masks.{takes, grown}
 use Rattle.mask_store.proofs.Growth.{whole}
-use Rattle.graph_rules.proofs.Legal.{legal-width}
+use Rattle.graph_rules.specs.Layout.{stepCount}
+use Rattle.graph_rules.proofs.Taken.{taken-long}
 use Rattle.plan_rules.specs.Plan.{base, wayTo, edgeNeeds}
 use Rattle.plan_rules.proofs.OwnStore.{own-whole, masked-whole}
 use Rattle.lists.proofs.Flattened.{append-all}
@@ -57,9 +58,9 @@ high-of o = high (g o) (start o .args .s) (o .before .fork-at .ensures)
 some-state : (o : tie.After-with-own) → 0 < length (g o .states)
 some-state o = let s = start o in omega (arith, from-length (s .args .graph .now), s .pre .1 .0)
 
--- a state has 257 steps
-width : (o : tie.After-with-own) → length (stateOf (g o) (start o .args .s) .steps) ≡ 257
-width o = let s = start o in legal-width (s .args .graph .now) (s .pre .0) (s .args .s) (omega (arith, from-length (s .args .graph .now), s .pre .1 .0))
+-- a state has all its steps
+width : (o : tie.After-with-own) → length (stateOf (g o) (start o .args .s) .steps) ≡ stepCount
+width o = let s = start o in from-width (s .args .graph .now) (taken-long (s .args .graph .now) (s .pre .0)) (s .args .s) (s .pre .1 .0)
 
 own-wide : (o : tie.After-with-own) → allL whole (own-of o) ≡ true
 own-wide o = own-whole base (stateOf (g o) (start o .args .s)) (width o) (start o .args .s) (o .before .fork-at .result .own)

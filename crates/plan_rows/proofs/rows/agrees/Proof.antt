@@ -9,7 +9,6 @@ use lib.ListN.{length, getD, take, drop}
 use Rattle.lists.specs.Lists.{eqList}
 use Rattle.graph_rules.specs.Graph.{graphFrom}
 use Rattle.graph_rules.proofs.Flat.{from-length}
-use Rattle.graph_rules.proofs.Taken.{taken-long}
 use Rattle.mask_store.specs.Masks.{storeOf, held}
 use Rattle.plan_rules.specs.Plan.{base, planRow, planWords}
 use Rattle.plan_rules.proofs.RunIsWalk.{base-sane, row-length}
@@ -34,8 +33,8 @@ wide : (l : tie.At-loop Inv-loop μ-loop) (s : ℕ) → length (row l s) ≡ 3
 wide l = let s = start l .args in row-length base base-sane (held (storeOf (s .tables .now) (s .count))) (graphFrom (s .graph .now))
 
 -- s is the number of a state
-is-state : (l : tie.At-loop Inv-loop μ-loop) → l .loop .s < l .before .word .result → l .loop .s < getD (start l .args .graph .now) 0 0
-is-state l h = omega (arith, l .before .word .ensures .0)
+is-state : (l : tie.At-loop Inv-loop μ-loop) → l .loop .s < l .before .states .result → l .loop .s < getD (start l .args .graph .now) 0 0
+is-state l h = omega (arith, l .before .states .ensures .0)
 
 -- what the call said of its row
 told : (c : tie.After-has-row Inv-loop μ-loop) →
@@ -45,8 +44,8 @@ told c =
     let l = c .before .before .before in
     c .has-row .ensures ∙ ap (eqList eqb (take 3 (drop (3 * l .loop .s) (start l .args .plan .now)))) (c .before .row-at .ensures)
 
-word-requires : tie.Need-word-requires Inv-loop μ-loop
-word-requires c κs = let s = c .before .before in omega (arith, taken-long (s .args .graph .now) (s .pre .0))
+states-requires : tie.Need-states-requires Inv-loop μ-loop
+states-requires c κs = c .before .before .pre .0
 
 loop-holds : tie.Need-loop-holds Inv-loop μ-loop
 unfolding flatMap
@@ -89,7 +88,7 @@ returns-2 c =
     let s = start l .args in
     sym
     (agrees-all (row l) (wide l) (s .plan .now) (l .loop .s) (length (graphFrom (s .graph .now) .states)) (l .loop .inv .1)
-    (omega (arith, l .before .word .ensures .0, from-length (s .graph .now))))
+    (omega (arith, l .before .states .ensures .0, from-length (s .graph .now))))
 
 pub agrees-spec : {M : Type 1} → statement M
 agrees-spec =
@@ -97,7 +96,7 @@ agrees-spec =
     (tie.spec
     Inv-loop
     μ-loop
-    word-requires
+    states-requires
     loop-holds
     row-at-requires
     has-row-requires

@@ -6,7 +6,6 @@ use lib.ListN.{length, getD}
 use Rattle.lists.proofs.Buffers.{Filled, filled-none, filled-length}
 use Rattle.graph_rules.specs.Graph.{graphFrom}
 use Rattle.graph_rules.proofs.Flat.{from-length}
-use Rattle.graph_rules.proofs.Taken.{taken-long}
 use Rattle.mask_store.specs.Masks.{storeOf, held}
 use Rattle.plan_rules.specs.Plan.{base, planRow, planWords}
 use Rattle.plan_rules.proofs.RunIsWalk.{base-sane, row-length}
@@ -24,18 +23,18 @@ abbrev start : tie.At-loop Inv-loop μ-loop → tie.Start Inv-loop μ-loop
 start l = l .before .before .before .before
 
 -- s is the number of a state
-is-state : (l : tie.At-loop Inv-loop μ-loop) → l .loop .s < l .before .word .result → l .loop .s < getD (start l .args .graph .now) 0 0
-is-state l h = omega (arith, l .before .word .ensures .0)
+is-state : (l : tie.At-loop Inv-loop μ-loop) → l .loop .s < l .before .states .result → l .loop .s < getD (start l .args .graph .now) 0 0
+is-state l h = omega (arith, l .before .states .ensures .0)
 
 -- there is room for its row
-room : (l : tie.At-loop Inv-loop μ-loop) → l .loop .s < l .before .word .result → 3 * l .loop .s + 3 ≤ length (start l .args .plan .now)
+room : (l : tie.At-loop Inv-loop μ-loop) → l .loop .s < l .before .states .result → 3 * l .loop .s + 3 ≤ length (start l .args .plan .now)
 room l h = omega (arith, is-state l h, from-length (start l .args .graph .now), start l .pre .1 .0)
 
-room-now : (l : tie.At-loop Inv-loop μ-loop) → l .loop .s < l .before .word .result → 3 * l .loop .s + 3 ≤ length (l .loop .plan)
+room-now : (l : tie.At-loop Inv-loop μ-loop) → l .loop .s < l .before .states .result → 3 * l .loop .s + 3 ≤ length (l .loop .plan)
 room-now l h = omega (arith, room l h, filled-length (l .loop .inv .1))
 
-word-requires : tie.Need-word-requires Inv-loop μ-loop
-word-requires c κs = let s = c .before .before in omega (arith, taken-long (s .args .graph .now) (s .pre .0))
+states-requires : tie.Need-states-requires Inv-loop μ-loop
+states-requires c κs = c .before .before .pre .0
 
 loop-holds : tie.Need-loop-holds Inv-loop μ-loop
 unfolding flatMap
@@ -72,7 +71,7 @@ returns c =
     let s = start l .args in
     let all = held (storeOf (s .tables .now) (s .count)) in
     let g = graphFrom (s .graph .now) in
-    filled-rows (planRow base all g) (row-length base base-sane all g) (l .loop .s) (length (g .states)) (l .loop .inv .1) (omega (arith, l .before .word .ensures .0, from-length (s .graph .now)))
+    filled-rows (planRow base all g) (row-length base base-sane all g) (l .loop .s) (length (g .states)) (l .loop .inv .1) (omega (arith, l .before .states .ensures .0, from-length (s .graph .now)))
 
 pub write-spec : {M : Type 1} → statement M
 write-spec =
@@ -80,7 +79,7 @@ write-spec =
     (tie.spec
     Inv-loop
     μ-loop
-    word-requires
+    states-requires
     loop-holds
     row-at-requires
     set-row-requires

@@ -5,7 +5,6 @@ use Prim.Native.Nat.{_≤_, _<_}
 use native.Mathlib.Omega.{arith}
 use borrow.Author.Tests.{not-true, not-false}
 use lib.ListN.{length}
-use Rattle.graph_rules.proofs.Taken.{taken-long}
 use Rattle.graph_rules.specs.Graph.{graphFrom, graphFits}
 use Rattle.mask_store.specs.Masks.{grown, takes}
 use Rattle.plan_rules.specs.Plan.{base, needs as needed, planSize}
@@ -23,7 +22,7 @@ fitting c = sym (c .before .fits2 .ensures) ∙ not-false _ (c .if1 .left)
 roomy : (c : tie.Else2) → let a = c .before .before .before .before .before .before .args in planSize base (graphFrom (a .graph .now)) ≤ length (a .out .now)
 roomy c =
     let a = c .before .before .before .before .before .before .args in
-    omega (arith, size-is (a .graph .now) _ (c .before .word .ensures .0))
+    omega (arith, size-is (a .graph .now) _ (c .before .states .ensures .0))
 
 -- and 15 takes the store, which has grown
 took : (c : tie.Else3) → let a = c .before .before .before .before .before .before .before .before .before .args in takes (a .store) (needed base (graphFrom (a .graph .now))) ≡ true
@@ -53,9 +52,8 @@ returns c =
     let e = outcome (plan-unfit (a .graph .now) (a .out .now) (a .store) (sym (at .fits2 .ensures) ∙ not-true _ (c .before .if1 .taken))) in
     (c .refused .ensures ∙ e .0, e .1)
 
-word-requires : tie.Need-word-requires
-word-requires c κs =
-    let l = taken-long _ (fitting c) in omega arith
+states-requires : tie.Need-states-requires
+states-requires c κs = fitting c
 
 mul-if2 : tie.Need-mul-if2
 mul-if2 c = search needs
@@ -67,7 +65,7 @@ returns-2 : tie.Need-returns-2
 returns-2 c =
     let at = c .before .before in
     let a = at .before .before .before .before .before .args in
-    let short : length (a .out .now) < planSize base (graphFrom (a .graph .now)) = omega (arith, size-is (a .graph .now) _ (at .word .ensures .0)) in
+    let short : length (a .out .now) < planSize base (graphFrom (a .graph .now)) = omega (arith, size-is (a .graph .now) _ (at .states .ensures .0)) in
     let e = outcome (plan-short (a .graph .now) (a .out .now) (a .store) (fitting (at .before)) short) in
     (c .refused2 .ensures ∙ e .0, e .1)
 
@@ -116,7 +114,7 @@ plan-by-value-spec =
     fits-requires
     refused-requires
     returns
-    word-requires
+    states-requires
     mul-if2
     refused-requires-2
     returns-2

@@ -2,9 +2,10 @@
 use Prim.Native.Nat.{_-_, _≤_, _<_}
 use native.Mathlib.Omega.{arith}
 use lib.ListN.{getD, length-set}
+use Rattle.graph_rules.specs.Layout.{mostStates}
 use Rattle.graph_rules.specs.Graph.{graphFrom}
 use Rattle.graph_rules.proofs.Flat.{from-length}
-use Rattle.graph_rules.proofs.Taken.{taken-long, taken-few}
+use Rattle.graph_rules.proofs.Taken.{taken-few}
 use Rattle.runner.proofs.Preparing.{PreparedTo, prepared-none, prepared-more, prepared-all, fork-below}
 use Rattle.runner.proofs.prepare.prepare.Statement.{statement}
 use Rattle.runner.proofs.prepare.prepare.Tie as tie
@@ -21,19 +22,16 @@ entry c = c .before .before .before .before .before
 -- the state, its targets and the number of states are small
 bounds : (c : tie.After-fork-at Inv-loop μ-loop)
     → let n = getD (entry (c .before .before) .args .graph .now) 0 0 in
-    (c .before .before .loop .s < n) × ((c .fork-at .result .low < n) × (c .fork-at .result .high < n)) × (n ≤ 1024)
+    (c .before .before .loop .s < n) × ((c .fork-at .result .low < n) × (c .fork-at .result .high < n)) × (n ≤ mostStates)
 bounds c =
     let at = c .before .before in
     let st = entry at in
     let w = st .args .graph .now in
-    let h : at .loop .s < getD w 0 0 = omega arith in
+    let h : at .loop .s < getD w 0 0 = omega (arith, at .before .states .ensures .0) in
     (h, fork-below w (at .loop .s) h (c .fork-at .ensures), taken-few w (st .pre .0))
 
-shared-slice-read-n : tie.Need-shared-slice-read-n Inv-loop μ-loop
-shared-slice-read-n c = let st = c .before .before .before .before in omega (arith, taken-long (st .args .graph .now) (st .pre .0))
-
-cast-n : tie.Need-cast-n Inv-loop μ-loop
-cast-n c = let st = c .before .before .before .before in omega (arith, taken-few (st .args .graph .now) (st .pre .0))
+states-requires : tie.Need-states-requires Inv-loop μ-loop
+states-requires c κs = c .before .before .before .pre .0
 
 loop-holds : tie.Need-loop-holds Inv-loop μ-loop
 loop-holds c =
@@ -41,7 +39,7 @@ loop-holds c =
     (omega arith, prepared-none (graphFrom (st .args .graph .now)) (st .args .ends .now) (st .args .tests .now) (st .pre .1 .0) (st .pre .1 .1))
 
 fork-at-requires : tie.Need-fork-at-requires Inv-loop μ-loop
-fork-at-requires c κs = (entry (c .before) .pre .0, omega arith)
+fork-at-requires c κs = (entry (c .before) .pre .0, omega (arith, c .before .before .states .ensures .0))
 
 cast-ends : tie.Need-cast-ends Inv-loop μ-loop
 cast-ends c = omega (arith, bounds (c .before))
@@ -112,7 +110,7 @@ same-length-2 c = omega (arith, c .before .loop .inv .1 .tests-size, entry (c .b
 returns : tie.Need-returns Inv-loop μ-loop
 returns c =
     let p = c .before .loop .inv .1 in
-    (prepared-all (omega (arith, from-length (entry (c .before) .args .graph .now))) p, (p .ends-size, p .tests-size))
+    (prepared-all (omega (arith, from-length (entry (c .before) .args .graph .now), c .before .before .states .ensures .0)) p, (p .ends-size, p .tests-size))
 
 pub prepare-spec : {M : Type 1} → statement M
 prepare-spec =
@@ -120,8 +118,7 @@ prepare-spec =
     (tie.spec
     Inv-loop
     μ-loop
-    shared-slice-read-n
-    cast-n
+    states-requires
     loop-holds
     fork-at-requires
     cast-ends

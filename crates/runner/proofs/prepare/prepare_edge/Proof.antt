@@ -1,8 +1,8 @@
--- The edge's 12 bytes are written where it is there, no table is used and it is tested by comparisons; else all is unchanged. Assumes nothing.
+-- The edge's bytes are written where it is there, no table is used and it is tested by comparisons; else all is unchanged. Assumes nothing.
 use borrow.Author.Needs.{needs}
 use mathlib.Core.Path.{_≡_, sym, ap, _∙_}
 use mathlib.Core.Bool.{false, false≢true}
-use Prim.Native.Nat.{ℕ, _*_, _<_}
+use Prim.Native.Nat.{ℕ, _<_}
 use native.Mathlib.Omega.{arith}
 use lib.Seq.{sets}
 use Rattle.graph_rules.specs.Graph.{State, stateOf, graphFrom}
@@ -10,7 +10,7 @@ use Rattle.graph_rules.proofs.Taken.{taken-few}
 use Rattle.edges.specs.Edges.{classTo}
 use Rattle.plan_rules.specs.declared.Way.the-variants.{BySelf, ByTests, ByMask}
 use Rattle.plan_rules.specs.Plan.{base, wayTo}
-use Rattle.runner.specs.Prepared.{edgeAt}
+use Rattle.runner.specs.Prepared.{slot, edgeAt, edgesSize}
 use Rattle.runner.proofs.Packed.{Edge, edge-left, edge-written}
 use Rattle.runner.proofs.prepare.prepare_edge.Statement.{statement}
 use Rattle.runner.proofs.prepare.prepare_edge.Tie as tie
@@ -21,7 +21,7 @@ state st = stateOf (graphFrom (st .args .graph .now)) (st .args .s)
 abbrev place : tie.Start → ℕ
 place st = edgeAt (st .args .s) (st .args .j)
 
-room : (st : tie.Start) → place st < 2048
+room : (st : tie.Start) → place st < edgesSize
 room st = omega (arith, taken-few (st .args .graph .now) (st .pre .0))
 
 -- nothing is written
@@ -90,7 +90,7 @@ returns-4 c =
     let way : wayTo base (state st) (st .args .s) (st .args .u) ≡ ByTests = sym (w .way-to .ensures) ∙ told .enum-told2 .given .1 in
     edge-written (st .args .tests .now) (place st) (st .args .j) (st .args .fork) (st .pre .1 .1 .1) (state st) (st .args .s) (st .args .u) (room st) (read .class-to .ensures) way
     (laid .impl-with-cmp .ensures .0) (written .before .packed .ensures)
-    (written .write .ensures ∙ ap (λ (e : ℕ). sets (st .args .tests .now) (12 * e) (written .before .packed .result)) (at .edge-place .ensures))
+    (written .write .ensures ∙ ap (λ (e : ℕ). sets (st .args .tests .now) (slot e) (written .before .packed .result)) (at .edge-place .ensures))
 
 returns-5 : tie.Need-returns-5
 returns-5 c =

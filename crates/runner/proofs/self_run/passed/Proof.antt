@@ -26,7 +26,7 @@ self-run-requires : tie.Need-self-run-requires
 self-run-requires c κs =
     let p = c .before .before .before .before .pre in
     let e : c .before .own .result ≡ getD (c .before .before .before .before .args .plan .now) (ownPlace base (c .before .before .before .before .args .s)) 0 = c .before .own .ensures in
-    (omega (arith, p .2, c .if1 .left), p .3, p .4)
+    (omega (arith, p .1, c .if1 .left), p .2, p .3)
 
 returns-2 : tie.Need-returns-2
 returns-2 c =
