@@ -11,10 +11,7 @@ ghost use Rattle.edges.specs.Edges.{classTo};
 ghost use Rattle.mask_store.specs.Masks.{storeOf, held, numberOf};
 ghost use Rattle.plan_rules.specs.Plan.{base, wayTo, wayWord, planRow, planWords, planSize};
 use crate::fork::fork_at;
-use crate::layout::ROW;
-use crate::layout::TABLE;
-use crate::layout::has_row;
-use crate::layout::set_row;
+use crate::layout;
 use crate::way::way_to;
 use edges::class_to;
 use mask_store::tables::number_from;
@@ -56,7 +53,7 @@ fn edge_word(graph: &[u16], s: usize, u: usize, tables: &[u8; 2048], count: usiz
 }
 
 // The plan's words of state s, by the numbers that the store has for its classes.
-fn row_at(graph: &[u16], s: usize, tables: &[u8; 2048], count: usize) -> [u16; ROW]
+fn row_at(graph: &[u16], s: usize, tables: &[u8; 2048], count: usize) -> [u16; layout::ROW]
     requires { ⌜ graphFits (now graph) ≡ true ⌝ }
     requires { ⌜ s < getD (now graph) 0 0 ⌝ }
     requires { ⌜ (count ≤ 64) × (length (now tables) ≡ 2048) ⌝ }
@@ -66,7 +63,7 @@ fn row_at(graph: &[u16], s: usize, tables: &[u8; 2048], count: usize) -> [u16; R
     let to_self = fork.own;
     let own = own_word(graph, s, to_self, tables, count);
     if fork.table {
-        return [own, TABLE, TABLE];
+        return [own, layout::TABLE, layout::TABLE];
     }
     if fork.count == 0 {
         return [own, 0, 0];
@@ -92,7 +89,7 @@ pub fn write(graph: &[u16], plan: &mut [u16], tables: &[u8; 2048], count: usize)
     let mut s: usize = 0;
     while s < n {
         let row = row_at(graph, s, tables, count);
-        set_row(plan, s, row);
+        layout::set_row(plan, s, row);
         s += 1;
     }
 }
@@ -108,7 +105,7 @@ pub fn agrees(graph: &[u16], plan: &[u16], tables: &[u8; 2048], count: usize) ->
     let mut s: usize = 0;
     while s < n {
         let row = row_at(graph, s, tables, count);
-        if !has_row(plan, s, row) {
+        if !layout::has_row(plan, s, row) {
             return false;
         }
         s += 1;

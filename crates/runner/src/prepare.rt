@@ -23,9 +23,9 @@ use plan_rules::Way;
 pub(crate) const SLOT: usize = 12;
 
 // How many edges of all states there may be, and the bytes of their comparisons.
-pub const ENDS: usize = 2048;
+pub const ENDS: usize = EDGES * words::STATES;
 
-pub const TESTS: usize = 24576;
+pub const TESTS: usize = SLOT * ENDS;
 
 // Comparisons in these bytes.
 fn packed(cmp: Comparisons) -> [u8; SLOT]
