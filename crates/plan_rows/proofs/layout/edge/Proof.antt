@@ -1,9 +1,10 @@
 -- The word that is read is edge j's. Assumes nothing.
 use mathlib.Core.Path.{_≡_, ap, _∙_}
-use Prim.Native.Nat.{ℕ, suc, _+_, _*_}
+use Prim.Native.Nat.{ℕ, _+_}
 use native.Mathlib.Omega.{arith}
 use borrow.Author.Needs.{needs}
 use lib.ListN.{getD}
+use Rattle.plan_rules.specs.Plan.{base, ownPlace, edgePlace}
 use Rattle.plan_rows.proofs.layout.edge.Statement.{statement}
 use Rattle.plan_rows.proofs.layout.edge.Tie as tie
 
@@ -22,7 +23,7 @@ word-requires c κs = search needs
 returns : tie.Need-returns
 returns c =
     let a = c .before .before .args in
-    let e : 3 * a .s + (1 + a .j) ≡ 3 * a .s + suc (a .j) = omega arith in
+    let e : ownPlace base (a .s) + (1 + a .j) ≡ edgePlace base (a .s) (a .j) = omega arith in
     c .word .ensures .0 ∙ ap (λ (i : ℕ). getD (a .plan .now) i 0) e
 
 pub edge-spec : {M : Type 1} → statement M

@@ -41,7 +41,7 @@ returns : tie.Need-returns Inv-loop μ-loop
 returns c =
     let at = c .before .before .before in
     let a = at .before .args in
-    let size : length (a .t3) ≡ 3 = search needs in
+    let size : length (a .t3) ≡ rowSize base = search needs in
     sym (rw size at (row-differs (a .plan .now) (a .t3) (ownPlace base (a .s)) (omega arith) (at .loop .j) (omega arith) (c .if1 .taken)))
 
 add-j : tie.Need-add-j Inv-loop μ-loop
@@ -60,7 +60,7 @@ returns-2 : tie.Need-returns-2 Inv-loop μ-loop
 returns-2 c =
     let at = c .before in
     let a = at .before .args in
-    let size : length (a .t3) ≡ 3 = search needs in
+    let size : length (a .t3) ≡ rowSize base = search needs in
     sym (rw size at (row-same (a .plan .now) (a .t3) (ownPlace base (a .s)) (omega arith) (λ i h. at .loop .inv .1 i (omega arith))))
 
 pub has-row-spec : {M : Type 1} → statement M

@@ -52,7 +52,7 @@ loop-again c =
     let at = c .before in
     let given = at .before .args in
     let j = at .loop .j in
-    let size : length (given .t3) ≡ 3 = search needs in (
+    let size : length (given .t3) ≡ rowSize base = search needs in (
       omega arith,
       ap (λ (l : List ℕ). set l (ownPlace base (given .s) + j) (getD (given .t3) j 0)) (at .loop .inv .1) ∙ run-more (given .plan .now) (ownPlace base (given .s)) (given .t3) j (omega arith),
     )
@@ -64,7 +64,7 @@ returns : tie.Need-returns Inv-loop μ-loop
 returns c =
     let at = c .before in
     let given = at .before .args in
-    let size : length (given .t3) ≡ 3 = search needs in
+    let size : length (given .t3) ≡ rowSize base = search needs in
     at .loop .inv .1 ∙ ap (sets (given .plan .now) (ownPlace base (given .s))) (take-all (at .loop .j) (given .t3) (omega arith))
 
 pub set-row-spec : {M : Type 1} → statement M

@@ -2,7 +2,7 @@
 use borrow.Author.Tests.{not-true, not-false}
 use mathlib.Core.Path.{_≡_, refl, sym, ap, _∙_}
 use mathlib.Core.List.{List, flatMap}
-use Prim.Native.Nat.{ℕ, _+_, _*_, _-_, _≤_, _<_}
+use Prim.Native.Nat.{ℕ, _+_, _-_, _≤_, _<_}
 use native.Mathlib.Omega.{arith}
 use lib.Dec.{eqb}
 use lib.ListN.{length, getD, take, drop}
@@ -10,7 +10,7 @@ use Rattle.lists.specs.Lists.{eqList}
 use Rattle.graph_rules.specs.Graph.{graphFrom}
 use Rattle.graph_rules.proofs.Flat.{from-length}
 use Rattle.mask_store.specs.Masks.{storeOf, held}
-use Rattle.plan_rules.specs.Plan.{base, planRow, planWords}
+use Rattle.plan_rules.specs.Plan.{base, rowSize, ownPlace, planRow, planWords}
 use Rattle.plan_rules.proofs.RunIsWalk.{base-sane, row-length}
 use Rattle.plan_rows.proofs.Rowwise.{Agrees, agrees-more, agrees-all, agrees-not}
 use Rattle.plan_rows.proofs.rows.agrees.Statement.{statement}
@@ -29,7 +29,7 @@ start l = l .before .before .before .before
 abbrev row : (l : tie.At-loop Inv-loop μ-loop) → ℕ → List ℕ
 row l = let s = start l .args in planRow base (held (storeOf (s .tables .now) (s .count))) (graphFrom (s .graph .now))
 
-wide : (l : tie.At-loop Inv-loop μ-loop) (s : ℕ) → length (row l s) ≡ 3
+wide : (l : tie.At-loop Inv-loop μ-loop) (s : ℕ) → length (row l s) ≡ rowSize base
 wide l = let s = start l .args in row-length base base-sane (held (storeOf (s .tables .now) (s .count))) (graphFrom (s .graph .now))
 
 -- s is the number of a state
@@ -39,10 +39,10 @@ is-state l h = omega (arith, l .before .states .ensures .0)
 -- what the call said of its row
 told : (c : tie.After-has-row Inv-loop μ-loop) →
     let l = c .before .before .before in
-    c .has-row .result ≡ eqList eqb (take 3 (drop (3 * l .loop .s) (start l .args .plan .now))) (row l (l .loop .s))
+    c .has-row .result ≡ eqList eqb (take (rowSize base) (drop (ownPlace base (l .loop .s)) (start l .args .plan .now))) (row l (l .loop .s))
 told c =
     let l = c .before .before .before in
-    c .has-row .ensures ∙ ap (eqList eqb (take 3 (drop (3 * l .loop .s) (start l .args .plan .now)))) (c .before .row-at .ensures)
+    c .has-row .ensures ∙ ap (eqList eqb (take (rowSize base) (drop (ownPlace base (l .loop .s)) (start l .args .plan .now)))) (c .before .row-at .ensures)
 
 states-requires : tie.Need-states-requires Inv-loop μ-loop
 states-requires c κs = c .before .before .pre .0
@@ -58,7 +58,7 @@ has-row-requires : tie.Need-has-row-requires Inv-loop μ-loop
 has-row-requires c κs =
     let l = c .before .before in
     let s = start l in
-    let room : 3 * l .loop .s + 3 ≤ length (s .args .plan .now) = omega (arith, is-state l (omega arith), from-length (s .args .graph .now), s .pre .1 .0) in
+    let room : ownPlace base (l .loop .s) + rowSize base ≤ length (s .args .plan .now) = omega (arith, is-state l (omega arith), from-length (s .args .graph .now), s .pre .1 .0) in
     room
 
 returns : tie.Need-returns Inv-loop μ-loop

@@ -1,13 +1,13 @@
 -- The loop's invariant: the rows of the states below s stand in front, and the rest is unchanged. The measure is the states left. Assumes nothing.
 use mathlib.Core.List.{flatMap}
-use Prim.Native.Nat.{_+_, _*_, _-_, _≤_, _<_}
+use Prim.Native.Nat.{_+_, _-_, _≤_, _<_}
 use native.Mathlib.Omega.{arith}
 use lib.ListN.{length, getD}
 use Rattle.lists.proofs.Buffers.{Filled, filled-none, filled-length}
 use Rattle.graph_rules.specs.Graph.{graphFrom}
 use Rattle.graph_rules.proofs.Flat.{from-length}
 use Rattle.mask_store.specs.Masks.{storeOf, held}
-use Rattle.plan_rules.specs.Plan.{base, planRow, planWords}
+use Rattle.plan_rules.specs.Plan.{base, rowSize, ownPlace, planRow, planWords}
 use Rattle.plan_rules.proofs.RunIsWalk.{base-sane, row-length}
 use Rattle.plan_rows.proofs.Rowwise.{rowsTo, filled-row, filled-rows}
 use Rattle.plan_rows.proofs.rows.write.Statement.{statement}
@@ -27,10 +27,10 @@ is-state : (l : tie.At-loop Inv-loop μ-loop) → l .loop .s < l .before .states
 is-state l h = omega (arith, l .before .states .ensures .0)
 
 -- there is room for its row
-room : (l : tie.At-loop Inv-loop μ-loop) → l .loop .s < l .before .states .result → 3 * l .loop .s + 3 ≤ length (start l .args .plan .now)
+room : (l : tie.At-loop Inv-loop μ-loop) → l .loop .s < l .before .states .result → ownPlace base (l .loop .s) + rowSize base ≤ length (start l .args .plan .now)
 room l h = omega (arith, is-state l h, from-length (start l .args .graph .now), start l .pre .1 .0)
 
-room-now : (l : tie.At-loop Inv-loop μ-loop) → l .loop .s < l .before .states .result → 3 * l .loop .s + 3 ≤ length (l .loop .plan)
+room-now : (l : tie.At-loop Inv-loop μ-loop) → l .loop .s < l .before .states .result → ownPlace base (l .loop .s) + rowSize base ≤ length (l .loop .plan)
 room-now l h = omega (arith, room l h, filled-length (l .loop .inv .1))
 
 states-requires : tie.Need-states-requires Inv-loop μ-loop
