@@ -21,3 +21,4 @@ pub mod Intervals
 pub mod Selecting
 pub mod Numbers
 pub mod Reports
+pub mod Flattened

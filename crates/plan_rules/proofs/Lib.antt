@@ -1,5 +1,3 @@
-pub mod Lists
-pub mod Legal
 pub mod Edges
 pub mod SelfRun
 pub mod RunIsWalk
