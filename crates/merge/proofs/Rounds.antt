@@ -1,8 +1,8 @@
 -- The rounds of rule 8: how the merge goes on after one, and the words after some. Assumes nothing.
 use mathlib.Core.Path.{_≡_, refl, sym, ap, _∙_}
 use mathlib.Core.Bool.{true, false}
-use mathlib.Core.List.{List, _++_}
-use Prim.Native.Nat.{ℕ, zero, suc, _+_, _*_, _≤_, _<_}
+use mathlib.Core.List.{List}
+use Prim.Native.Nat.{ℕ, zero, suc, _≤_, _<_}
 use native.Mathlib.Nat.{not-suc-le-zero}
 use native.Mathlib.Omega.{arith}
 use borrow.Author.Tests.{eqb-false}
@@ -10,7 +10,7 @@ use lib.ListN.{length, getD, drop}
 use Rattle.lists.specs.Lists.{distinct}
 use Rattle.lists.proofs.Bools.{Is, is, yes-is, no-is}
 use Rattle.lists.proofs.Distinct.{distinct-length}
-use Rattle.graph_rules.specs.Graph.{Graph, same, graphFits, graphFrom, graphBuffer}
+use Rattle.graph_rules.specs.Graph.{Graph, same, graphFits, graphFrom, writtenOn, rewritten}
 use Rattle.graph_rules.specs.Build.{mergeRound, mergesNone, mergeFor, merged}
 use Rattle.graph_rules.proofs.Fits.{Fits, round-fits}
 use Rattle.graph_rules.proofs.Merge.{same-sound, round-length}
@@ -65,7 +65,7 @@ pub record Merging (w₀ w : List ℕ) : Type 0 where
   pub taken : graphFits w ≡ true
   pub len : length w ≡ length w₀
   pub fits : Fits noLeaf (getD w₀ 0 0) (graphFrom w)
-  pub buffer : w ≡ graphBuffer (getD w₀ 0 0) (graphFrom w) ++ drop (graphSize (getD w₀ 0 0)) w₀
+  pub buffer : w ≡ writtenOn (getD w₀ 0 0) (graphFrom w) w₀
   pub left : merged (graphFrom w) .graph ≡ merged (graphFrom w₀) .graph
 
 pub merging-none : (w₀ : List ℕ) → graphFits w₀ ≡ true → ((i : ℕ) → getD w₀ i 0 < 65536) → Merging w₀ w₀
@@ -82,16 +82,16 @@ module _ (w₀ : List ℕ) (few : getD w₀ 0 0 ≤ mostStates) (w : List ℕ) (
   abbrev rest : List ℕ
   rest = drop (graphSize n) w₀
 
-  pub merging-done : mergesNone (graphFrom w) ≡ true → w ≡ graphBuffer (getD w₀ 0 0) (merged (graphFrom w₀) .graph) ++ drop (graphSize (getD w₀ 0 0)) w₀
-  merging-done e = m .buffer ∙ ap (λ (x : Graph). graphBuffer n x ++ rest) (sym (merged-stops g e) ∙ m .left)
+  pub merging-done : mergesNone (graphFrom w) ≡ true → w ≡ rewritten (λ g. merged g .graph) w₀
+  merging-done e = m .buffer ∙ ap (λ (x : Graph). writtenOn n x w₀) (sym (merged-stops g e) ∙ m .left)
 
   module _ (e : mergesNone (graphFrom w) ≡ false) (v : List ℕ)
-      (round : v ≡ graphBuffer (getD w 0 0) (mergeRound (graphFrom w)) ++ drop (graphSize (getD w 0 0)) w) where
-    written : v ≡ graphBuffer n (mergeRound g) ++ rest
+      (round : v ≡ rewritten mergeRound w) where
+    written : v ≡ writtenOn n (mergeRound g) w₀
     written =
         let fewer = round-fewer g e in
-        round ∙ ap (λ (k : ℕ). graphBuffer k (mergeRound g) ++ drop (graphSize k) w) (sym (from-length w))
-        ∙ ap (λ (x : List ℕ). graphBuffer (length (g .states)) (mergeRound g) ++ drop (graphSize (length (g .states))) x) (m .buffer)
+        round ∙ ap (λ (k : ℕ). writtenOn k (mergeRound g) w) (sym (from-length w))
+        ∙ ap (writtenOn (length (g .states)) (mergeRound g)) (m .buffer)
         ∙ written-over noLeaf n (omega arith) few g (m .fits) (mergeRound g) (omega arith) rest
 
     read : graphFrom v ≡ mergeRound g
