@@ -12,7 +12,7 @@ use lib.ListN.{length, getD}
 use Rattle.lists.specs.Lists.{allL, those}
 use Rattle.lists.proofs.Bools.{Is, is, yes-is, no-is, and-intro}
 use Rattle.lists.proofs.Elements.{eqb-sound}
-use Rattle.lists.proofs.Distinct.{those-keep}
+use Rattle.lists.proofs.Those.{those-keep}
 use Rattle.lists.proofs.Rising.{Rising, rising-nil, rising-cons, rising-those, rising-few}
 use Rattle.graph_rules.specs.Table.{Table, tableOf, rowOf, matchOf, refusal}
 use Rattle.graph_rules.specs.Build.{chain, contenders}
@@ -95,7 +95,7 @@ module _ (w : List ℕ) (legal : refusal w ≡ 0) where
   tie-rises i h = rw (tie-leaves i) (rising-those _ (leaves i) (climbs i i (omega arith) h .rises))
 
   pub tie-below : (i : ℕ) → i ≤ getD w 3 0 → allL (λ l. ltb l (getD w 2 0)) (tieFrom t i) ≡ true
-  tie-below i h = rw (tie-leaves i) (those-keep _ eqb-sound _ (λ l. ltb l (getD w 2 0)) (leaves i) (climbs i i (omega arith) h .low))
+  tie-below i h = rw (tie-leaves i) (those-keep _ (λ l. ltb l (getD w 2 0)) (leaves i) (climbs i i (omega arith) h .low))
 
   pub tie-few : (i : ℕ) → i ≤ getD w 3 0 → length (tieFrom t i) ≤ noLeaf
   tie-few i h =

@@ -2,14 +2,14 @@
 use mathlib.Core.Path.{_≡_, ap, _∙_}
 use mathlib.Core.List.{List, [], _∷_, _++_, map, flatMap}
 use mathlib.Core.Option.{Option, none, Option·getD}
-use Prim.Native.Nat.{ℕ, zero, suc, _+_, _*_, _/_, _%_, _≤_, _<_, zero-le, suc-le-suc}
-use native.Mathlib.Nat.{not-suc-le-zero, le-of-suc-le-suc, mul-suc, mul-zero}
+use Prim.Native.Nat.{ℕ, zero, suc, _+_, _*_, _≤_, _<_, zero-le, suc-le-suc}
+use native.Mathlib.Nat.{not-suc-le-zero, le-of-suc-le-suc}
 use native.Mathlib.Omega.{arith}
 use lib.ListN.{length, getD, take, drop, length-map, length-drop, List·getD-append}
-use lib.Seq.{length-take-le, getD-take, getD-drop, getD-append-add, getD-at}
+use lib.Seq.{length-take-le, getD-take, getD-append-add, getD-at}
 use Rattle.lists.specs.Lists.{pieces}
 use Rattle.lists.proofs.Elements.{map-at}
-use Rattle.lists.proofs.Pieces.{pieces-length, pieces-width, pieces-at, piece-word}
+use Rattle.lists.proofs.Pieces.{pieces-length, pieces-width, piece-word}
 use Rattle.graph_rules.specs.Table.{Leaf, Row, Match, tableOf, rowOf, step, leafAt, matchOf}
 use Rattle.graph_rules.specs.Graph.{State, Graph, blank, stateOf, to, acceptOf, earlyOf, stateWords, graphWords, orNone, stateFrom, graphFrom}
 use Rattle.graph_rules.proofs.Fits.{Fits}

@@ -11,7 +11,7 @@ use lib.Seq.{getD-take, drop-cons, length-take-le, getD-append-seam}
 use Rattle.lists.specs.Lists.{below, those, eqOption}
 use Rattle.lists.proofs.Elements.{getD-tab0, length-tab, all-at, map-at, option-sound}
 use Rattle.lists.proofs.Bools.{Is, is, no-is, none-some, lt-or-le, yes-is}
-use Rattle.lists.proofs.Distinct.{those-yes}
+use Rattle.lists.proofs.Those.{those-yes}
 use Rattle.graph_rules.specs.Graph.{State, Graph, blank, stateOf, to, acceptOf, earlyOf, leads}
 use Rattle.graph_rules.specs.Build.{present, children, acceptBy, agreed, withEarly, covered, cleared, withCleared}
 use Rattle.graph_rules.proofs.Agreed.{agreed-at}
@@ -82,7 +82,7 @@ module _ (g : Graph) where
       drop-cons (s .steps) endStep none (some-within (s .steps) endStep j q) ∙ ap (λ (o : Option ℕ). o ∷ drop stepCount (s .steps)) q in
       let rest = those p (drop stepCount (s .steps)) in
       let all : children s ≡ front ++ some j ∷ rest =
-      ap (λ (m : List (Option ℕ)). front ++ m) (ap (those p) split ∙ those-yes eqOption option-sound p (some j) (drop stepCount (s .steps)) refl) in
+      ap (λ (m : List (Option ℕ)). front ++ m) (ap (those p) split ∙ those-yes p (some j) (drop stepCount (s .steps)) refl) in
       let size : length (children s) ≡ length front + length (some j ∷ rest) = ap length all ∙ length-append front (some j ∷ rest) in
       let at : getD (children s) (length front) none ≡ some j = ap (λ (m : List (Option ℕ)). getD m (length front) none) all ∙ getD-append-seam front (some j) rest none in
       ap (acceptBy g) (sym at) ∙ early-child i l (length front) e (omega arith)

@@ -5,7 +5,6 @@ use mathlib.Core.List.{List, [], _∷_}
 use mathlib.Core.Option.{none, some}
 use mathlib.Core.Logic.{⊎-elim}
 use Prim.Native.Nat.{ℕ, zero, suc, _+_, _*_, _≤_, _<_}
-use native.Mathlib.Nat.{not-suc-le-zero, le-of-suc-le-suc, mul-suc}
 use native.Mathlib.Omega.{arith}
 use borrow.Author.Tests.{eq-eqb, ne-eqb, eqb-true, eqb-false, ltb-true, leb-true}
 use lib.Dec.{eqb, leb, ltb}
@@ -14,8 +13,8 @@ use lib.Seq.{length-take-le}
 use Rattle.lists.proofs.Pieces.{pieces-length, pieces-width}
 use Rattle.lists.specs.Lists.{allL, below, pieces}
 use Rattle.lists.proofs.Bools.{and-both, and-intro, or-cases, Is, is, no-is, none-some, some-inj, lt-or-le, yes-is}
-use Rattle.lists.proofs.Elements.{getD-tab0, length-tab, all-at, eqb-sound, map-at}
-use Rattle.lists.proofs.Distinct.{those-keep}
+use Rattle.lists.proofs.Elements.{getD-tab0, length-tab, all-at, map-at}
+use Rattle.lists.proofs.Those.{those-keep}
 use Rattle.graph_rules.specs.Table.{Row, Table, tableOf, size, rowOf, step, matchOf, matchFits, conditions, firstBroken, refusal, countsFit, emptiesFit, targetsFit, headsFit, recordsFit}
 use Rattle.graph_rules.specs.Build.{chainFrom, chain, contenders, single, leafOf}
 use Rattle.graph_rules.specs.Layout.{stepCount, noState, mostStates, rowWords, tableRow, headPlace, mostLeaves, tableLength}
@@ -153,7 +152,8 @@ module _ (w : List ℕ) (legal : refusal w ≡ 0) where
       ap (λ (x : ℕ). matchFits (tableOf w) (suc x)) (sym (getD-tab0 (getD w 3 0) (λ x. x) i 0 h))
       ∙ all-at (λ i. matchFits (tableOf w) (suc i)) (below (getD w 3 0)) i 0 a (rw (length-tab 0 (getD w 3 0) (λ x. x)) h)
 
-  head-fits : (s : ℕ) → rowOf (tableOf w) s .head ≤ getD w 3 0
+  -- a state past the last has the empty chain
+  pub head-fits : (s : ℕ) → rowOf (tableOf w) s .head ≤ getD w 3 0
   unfolding conditions rowOf countsFit emptiesFit targetsFit headsFit recordsFit
   head-fits s =
       let rows = tableOf w .rows in
@@ -191,7 +191,7 @@ module _ (w : List ℕ) (legal : refusal w ≡ 0) where
   legal-leaf s l e =
       let t = tableOf w in
       let c = chain-below (rowOf t s .head) (rowOf t s .head) (head-fits s) in
-      let b = ltb-true l (length (t .leaves)) (single-all (λ l. ltb l (length (t .leaves))) (contenders t s) (those-keep eqb eqb-sound _ (λ l. ltb l (length (t .leaves))) (chain t s) c) l e) in
+      let b = ltb-true l (length (t .leaves)) (single-all (λ l. ltb l (length (t .leaves))) (contenders t s) (those-keep _ (λ l. ltb l (length (t .leaves))) (chain t s) c) l e) in
       let z = table-leaves in
       omega arith
 

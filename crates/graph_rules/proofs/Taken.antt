@@ -3,14 +3,14 @@ use mathlib.Core.Path.{_≡_, sym, subst, _∙_}
 use mathlib.Core.Bool.{true, _||_}
 use mathlib.Core.List.{List, []}
 use mathlib.Core.Logic.{_⊎_, inl, inr, ⊎-elim}
-use Prim.Native.Nat.{ℕ, _+_, _*_, _≤_, _<_}
+use Prim.Native.Nat.{ℕ, _≤_, _<_}
 use native.Mathlib.Omega.{arith}
 use borrow.Author.Tests.{eqb-true, leb-true, ltb-true}
 use lib.Dec.{eqb, leb, ltb}
 use lib.ListN.{length, getD, take, drop}
 use lib.Seq.{length-take-le, getD-take}
 use Rattle.lists.specs.Lists.{allL, pieces}
-use Rattle.lists.proofs.Bools.{and-both, or-cases, is}
+use Rattle.lists.proofs.Bools.{and-both, or-cases}
 use Rattle.lists.proofs.Elements.{all-at}
 use Rattle.lists.proofs.Pieces.{pieces-length, piece-word}
 use Rattle.graph_rules.specs.Graph.{graphFits}

@@ -12,7 +12,8 @@ use lib.ListN.{length, getD, set, replicate}
 use lib.Seq.{getD-set-same}
 use Rattle.lists.specs.Sets.{In, from-seed, by-edge, count}
 use Rattle.lists.proofs.Bools.{Is, is, yes-is, no-is}
-use Rattle.lists.proofs.Closure.{count-length, in-below}
+use Rattle.lists.proofs.Closure.{in-below}
+use Rattle.lists.proofs.Counting.{count-length}
 use Rattle.lists.proofs.Worklist.{AllIn, none-in, pop, push, finish, in-keeps, in-cases, count-more, count-room}
 use Rattle.graph_rules.specs.Graph.{Graph, stateOf, leads}
 use Rattle.prune.specs.Matrix.{byteOf, bitAt}

@@ -1,8 +1,8 @@
 -- Refusal 12 by single words: every target is judged where it stands. Assumes nothing.
-use mathlib.Core.Path.{_≡_, refl, sym, ap, _∙_}
+use mathlib.Core.Path.{_≡_, sym, ap, _∙_}
 use mathlib.Core.Bool.{Bool, true, false, _&&_, _||_}
 use mathlib.Core.List.{List, []}
-use Prim.Native.Nat.{ℕ, zero, suc, zero-le, _+_, _*_, _≤_, _<_}
+use Prim.Native.Nat.{ℕ, zero, suc, zero-le, _≤_, _<_}
 use native.Mathlib.Omega.{arith}
 use borrow.Author.Tests.{lt-leb, le-leb, le-ltb, ne-eqb}
 use lib.Dec.{eqb, leb, ltb}

@@ -4,7 +4,7 @@ use mathlib.Core.Bool.{true, false, _||_}
 use mathlib.Core.List.{List, []}
 use mathlib.Core.Option.{Option, none, some, Option·getD}
 use mathlib.Core.Logic.{_⊎_, ⊎-elim}
-use Prim.Native.Nat.{ℕ, _+_, _*_, _/_, _%_, _≤_, _<_}
+use Prim.Native.Nat.{ℕ, _≤_, _<_}
 use native.Mathlib.Omega.{arith}
 use borrow.Author.Tests.{eq-eqb, le-leb, lt-ltb}
 use lib.Dec.{eqb, ltb}

@@ -9,7 +9,7 @@ use native.Mathlib.Omega.{arith}
 use borrow.Author.Tests.{not-true, not-false}
 use lib.ListN.{length, getD, replicate}
 use Rattle.lists.specs.Sets.{count}
-use Rattle.lists.proofs.Closure.{count-length}
+use Rattle.lists.proofs.Counting.{count-length}
 use Rattle.graph_rules.specs.Graph.{Graph, stateOf, leads, graphFrom}
 use Rattle.graph_rules.specs.Build.{kept}
 use Rattle.graph_rules.proofs.Flat.{from-length}

@@ -10,7 +10,7 @@ use borrow.Author.Tests.{not-true, not-false}
 use lib.ListN.{length, getD, set, replicate, length-replicate}
 use lib.Seq.{getD-set-same}
 use Rattle.lists.specs.Sets.{In, count}
-use Rattle.lists.proofs.Closure.{count-length}
+use Rattle.lists.proofs.Counting.{count-length}
 use Rattle.lists.proofs.Worklist.{Work, AllIn, pop, push, finish, closed, single, count-more, count-room, in-keeps}
 use Rattle.graph_rules.specs.Layout.{stepCount, mostStates, rowPlace}
 use Rattle.legal.specs.Conditions.{targetWord, Sized}

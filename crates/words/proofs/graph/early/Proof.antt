@@ -1,6 +1,6 @@
 -- The early leaf is the high byte of the marks word. Assumes nothing.
 use mathlib.Core.Path.{sym, ap, _∙_}
-use Prim.Native.Nat.{ℕ, _/_}
+use Prim.Native.Nat.{ℕ}
 use native.Mathlib.Omega.{arith}
 use Rattle.graph_rules.proofs.Taken.{taken-few, taken-long}
 use Rattle.words.proofs.GraphWords.{early-is}

@@ -6,10 +6,6 @@ use borrow.Author.Tests.{not-true, not-false}
 use Rattle.words.proofs.Fitting.{unfit-short, unfit-long, unfit-many, unfit-target, fits-none, fits-some}
 use Rattle.words.proofs.graph.fits.Statement.{statement}
 use Rattle.words.proofs.graph.fits.Tie as tie
-use Rattle.words.proofs.graph.fits.Reads as reads
-use Rattle.words.proofs.graph.fits.Lts as lts
-use Rattle.words.proofs.graph.targets_fit.Reads as targets-fit-reads
-use Rattle.words.proofs.word.Reads as word-reads
 
 returns : tie.Need-returns
 returns c = sym (unfit-short (c .before .before .args .graph .now) (omega arith))

@@ -6,9 +6,6 @@ use borrow.Author.Needs.{needs}
 use borrow.Author.Needs.{needs}
 use Rattle.words.proofs.graph.set_word.Statement.{statement}
 use Rattle.words.proofs.graph.set_word.Tie as tie
-use Rattle.words.proofs.graph.set_word.Reads as reads
-use Rattle.words.proofs.graph.set_word.Lts as lts
-use Rattle.words.proofs.graph.place.Reads as place-reads
 
 -- src/graph.rt:52:11
 place-requires : tie.Need-place-requires
