@@ -5,36 +5,18 @@ use mathlib.Core.List.{List}
 use Prim.Native.Nat.{ℕ, zero, suc, _≤_, _<_}
 use native.Mathlib.Nat.{not-suc-le-zero}
 use native.Mathlib.Omega.{arith}
-use borrow.Author.Tests.{eqb-false}
 use lib.ListN.{length, getD, drop}
-use Rattle.lists.specs.Lists.{distinct}
 use Rattle.lists.proofs.Bools.{Is, is, yes-is, no-is}
-use Rattle.lists.proofs.Distinct.{distinct-length}
-use Rattle.graph_rules.specs.Graph.{Graph, same, graphFits, graphFrom, writtenOn, rewritten}
+use Rattle.graph_rules.specs.Graph.{Graph, graphFits, graphFrom, writtenOn, rewritten}
 use Rattle.graph_rules.specs.Build.{mergeRound, mergesNone, mergeFor, merged}
 use Rattle.graph_rules.proofs.Fits.{Fits, round-fits}
-use Rattle.graph_rules.proofs.Merge.{same-sound, round-length}
+use Rattle.graph_rules.proofs.Merge.{stops, goes-on, round-fewer}
 use Rattle.graph_rules.proofs.Flat.{from-length}
 use Rattle.words.proofs.GraphWords.{taken-fits}
 use Rattle.words.proofs.Buffers.{buffer-back, taken-words, written-over}
 use Rattle.graph_rules.specs.Layout.{mostStates, graphSize, noLeaf}
 
 -- ---- rounds
-
-stops : (k : ℕ) (g : Graph) → mergesNone g ≡ true → mergeFor (suc k) g .graph ≡ g
-stops k g e = rw (e, mergeFor)
-
-goes-on : (k : ℕ) (g : Graph) → mergesNone g ≡ false → mergeFor (suc k) g .graph ≡ mergeFor k (mergeRound g) .graph
-goes-on k g e = rw (e, mergeFor)
-
--- a round that merges has fewer states
-pub round-fewer : (g : Graph) → mergesNone g ≡ false → length (mergeRound g .states) < length (g .states)
-unfolding mergesNone
-round-fewer g e =
-    let a : length (distinct same (g .states)) ≤ length (g .states) = distinct-length same same-sound (g .states) in
-    let b : length (distinct same (g .states)) ≡ length (g .states) → ⊥ = eqb-false (length (distinct same (g .states))) (length (g .states)) e in
-    let c : length (mergeRound g .states) ≡ length (distinct same (g .states)) = round-length g in
-    omega (arith, b)
 
 -- more rounds than states change nothing
 enough : (k j : ℕ) (g : Graph) → length (g .states) < k → length (g .states) < j → mergeFor k g .graph ≡ mergeFor j g .graph
@@ -44,20 +26,18 @@ enough (suc k) (suc j) g h l = go (is (mergesNone g)) (enough k j (mergeRound g)
   where
     go : Is (mergesNone g) → (length (mergeRound g .states) < k → length (mergeRound g .states) < j → mergeFor k (mergeRound g) .graph ≡ mergeFor j (mergeRound g) .graph)
         → mergeFor (suc k) g .graph ≡ mergeFor (suc j) g .graph
-    go (yes-is q) f = stops k g q ∙ sym (stops j g q)
-    go (no-is q) f =
-        let a = round-fewer g q in
-        goes-on k g q ∙ f (omega arith) (omega arith) ∙ sym (goes-on j g q)
+    go (yes-is q) f = rw (stops k g q, stops j g q)
+    go (no-is q) f = let a = round-fewer g q in rw (goes-on k g q, goes-on j g q) (f (omega arith) (omega arith))
 
 pub merged-stops : (g : Graph) → mergesNone g ≡ true → merged g .graph ≡ g
 unfolding merged
-merged-stops g e = stops (length (g .states)) g e
+merged-stops g e = rw (stops (length (g .states)) g e)
 
 pub merged-goes : (g : Graph) → mergesNone g ≡ false → merged (mergeRound g) .graph ≡ merged g .graph
 unfolding merged
 merged-goes g e =
     let a = round-fewer g e in
-    enough (suc (length (mergeRound g .states))) (length (g .states)) (mergeRound g) (omega arith) (omega arith) ∙ sym (goes-on (length (g .states)) g e)
+    rw (goes-on (length (g .states)) g e) (enough (suc (length (mergeRound g .states))) (length (g .states)) (mergeRound g) (omega arith) (omega arith))
 
 -- ---- the words after some rounds: w₀ at the beginning
 
