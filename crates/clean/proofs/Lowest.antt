@@ -9,7 +9,7 @@ use lib.ListN.{length, getD, replicate}
 use lib.Seq.{take-at}
 use Rattle.lists.specs.Lists.{below, those, select}
 use Rattle.lists.proofs.Elements.{length-tab}
-use Rattle.lists.proofs.Selections.{select-take}
+use Rattle.lists.proofs.Selecting.{select-whole}
 use Rattle.graph_rules.specs.Graph.{orNone}
 use Rattle.graph_rules.specs.Clean.{first}
 use Rattle.graph_rules.proofs.Nones.{or-none, or-number}
@@ -60,4 +60,4 @@ lowest-padded w set k p e =
     let n = getD w 0 0 in
     let l = length-tab 0 n (λ i. i) in
     ap (λ (x : List ℕ). first (those p x))
-    (sym (select-take n (set ++ replicate k false) (below n) (omega arith)) ∙ ap (λ (x : List Bool). select x (below n)) (take-at set (replicate k false) n e))
+    (sym (select-whole (set ++ replicate k false) (below n) n (omega arith)) ∙ ap (λ (x : List Bool). select x (below n)) (take-at set (replicate k false) n e))

@@ -7,7 +7,7 @@ use native.Mathlib.Omega.{arith}
 use lib.ListN.{getD, drop}
 use Rattle.lists.specs.Lists.{tab, below, those, select}
 use Rattle.lists.proofs.Bools.{Is, is, yes-is, no-is, and-both}
-use Rattle.lists.proofs.Selections.{select-in, select-out, select-none}
+use Rattle.lists.proofs.Selecting.{select-here, select-past, select-none}
 
 unfoldable pub chosenOn : ℕ → List Bool → (ℕ → Bool) → ℕ → List ℕ
 chosenOn n set p s = those p (select (drop s set) (tab s (n - s) (λ i. i)))
@@ -31,11 +31,11 @@ module _ (n : ℕ) (set : List Bool) (p : ℕ → Bool) where
     chosen-pass q = go (is (getD set s false))
       where
         go : Is (getD set s false) → chosenOn n set p s ≡ chosenOn n set p (suc s)
-        go (no-is o) = rw (on, select-out set s s (tab (suc s) (n - suc s) (λ i. i)) o)
-        go (yes-is m) = rw (on, select-in set s s (tab (suc s) (n - suc s) (λ i. i)) m) (rw (rw m at q, those))
+        go (no-is o) = rw (on, select-past set s s (tab (suc s) (n - suc s) (λ i. i)) o)
+        go (yes-is m) = rw (on, select-here set s s (tab (suc s) (n - suc s) (λ i. i)) m) (rw (rw m at q, those))
 
     pub chosen-more : (getD set s false && p s) ≡ true → chosenOn n set p s ≡ s ∷ chosenOn n set p (suc s)
     unfolding chosenOn
     chosen-more q =
         let (m, r) = and-both (getD set s false) (p s) q in
-        rw (on, select-in set s s (tab (suc s) (n - suc s) (λ i. i)) m) (rw (r, those))
+        rw (on, select-here set s s (tab (suc s) (n - suc s) (λ i. i)) m) (rw (r, those))

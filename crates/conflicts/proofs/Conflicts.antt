@@ -10,7 +10,7 @@ use lib.ListN.{length, getD, take, length-map, length-append}
 use Rattle.lists.specs.Lists.{below, select, sorted}
 use Rattle.lists.proofs.Bools.{Is, is, yes-is, no-is, and-both, and-intro, and-right-false}
 use Rattle.lists.proofs.Elements.{length-tab}
-use Rattle.lists.proofs.Selections.{select-take}
+use Rattle.lists.proofs.Selecting.{select-whole}
 use Rattle.lists.proofs.Sorted.{total, sorted-total, sorted-length}
 use Rattle.lists.proofs.Those.{those-map}
 use Rattle.graph_rules.specs.Table.{Table, tableOf, refusal}
@@ -121,7 +121,7 @@ module _ (w : List ℕ) (legal : refusal w ≡ 0) (set : List Bool) where
       let n = getD w 0 0 in
       rw (
         size-is w legal,
-        select-take n set (below n) (let l = length-tab 0 n (λ i. i) in omega arith),
+        select-whole set (below n) n (let l = length-tab 0 n (λ i. i) in omega arith),
         those-map (λ ls. leb 2 (length ls)) (contenders (tableOf w)) (select set (below n)),
         chosen-all n set (λ u. leb 2 (length (contenders (tableOf w) u))),
       )

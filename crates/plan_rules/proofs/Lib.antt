@@ -5,3 +5,4 @@ pub mod Holding
 pub mod Again
 pub mod OwnStore
 pub mod Decided
+pub mod Needed
