@@ -1,21 +1,22 @@
 -- The ways of the build's call: a refusal, the two endings of rule 1, or the states of rules 2 to 8. Assumes nothing.
-use mathlib.Core.Path.{_≡_, refl, sym, ap, subst, _∙_}
-use mathlib.Core.Bool.{Bool, true, false}
+use mathlib.Core.Path.{_≡_, refl, sym, ap, _∙_}
+use mathlib.Core.Bool.{Bool, false}
 use mathlib.Core.List.{List, [], _∷_, _++_, map, flatMap}
 use mathlib.Core.Option.{Option, none, some}
-use Prim.Native.Nat.{ℕ, zero, suc, _+_, _-_, _*_, _≤_, _<_}
+use Prim.Native.Nat.{ℕ, _-_, _≤_, _<_}
 use native.Mathlib.Omega.{arith}
 use borrow.Author.Tests.{eq-eqb, ne-eqb, lt-ltb, le-ltb}
 use lib.ListN.{length, getD, take, drop, replicate}
 use lib.Seq.{take-at}
 use Rattle.lists.proofs.Closure.{closure-length}
 use Rattle.graph_rules.specs.Table.{Table, tableOf, refusal, size}
-use Rattle.graph_rules.specs.Graph.{Graph, graphWords, graphBuffer}
+use Rattle.graph_rules.specs.Graph.{writtenOn}
 use Rattle.graph_rules.specs.Build.{Built, noUniversalStart, emptyMatch, errorWords, emptyLeaves, noStates, reached, ties, buildFrom, build}
 use Rattle.graph_rules.proofs.Shape.{size-is}
 use Rattle.conflicts.specs.Listed.{listed}
 use Rattle.graph.specs.declared.new.BuildAnswer.the-variants.{Built as Made}
 use Rattle.graph.specs.New.{refusedBy, conflicts, wroteOr9, writtenOr, newOf}
+use Rattle.graph.proofs.Stages.{first-word, second-word}
 use Rattle.graph.proofs.Written.{short, enough}
 use Rattle.graph_rules.specs.Layout.{mostStates, graphSize}
 
@@ -68,7 +69,7 @@ module _ (table graph errors : List ℕ) where
         let e : writtenOr n b graph errors ≡ wroteOr9 n b graph errors = rw (le-ltb (length graph) (graphSize n) h) in
         sym e ∙ taken b q
 
--- ---- the set of reached states, and the words in front of a graph
+-- ---- the set of reached states
 
 pub set-part : (table : List ℕ) → refusal table ≡ 0 → (start : ℕ) (set : List Bool)
     → set ≡ reached (tableOf table) start ++ replicate (mostStates - getD table 0 0) false → take (getD table 0 0) set ≡ reached (tableOf table) start
@@ -77,15 +78,6 @@ set-part table legal start set e =
     ap (take (getD table 0 0)) e
     ∙ take-at (reached (tableOf table) start) (replicate (mostStates - getD table 0 0) false) (getD table 0 0)
     (closure-length _ (size (tableOf table)) _ ∙ size-is table legal)
-
-module _ (n : ℕ) (g : Graph) (rest w : List ℕ) (e : w ≡ graphBuffer n g ++ rest) where
-  pub first-word : getD w 0 0 ≡ length (g .states)
-  unfolding graphBuffer graphWords
-  first-word = ap (λ (x : List ℕ). getD x 0 0) e
-
-  pub second-word : getD w 1 0 ≡ g .root
-  unfolding graphBuffer graphWords
-  second-word = ap (λ (x : List ℕ). getD x 1 0) e
 
 -- ---- rules 2 to 8, by the numbers that the code holds: k errors of `words` words
 
@@ -107,13 +99,13 @@ module _ (table : List ℕ) (legal : refusal table ≡ 0) (start n : ℕ) (en : 
 
   pub states-done : words ≤ length errors → (k s r : ℕ) (g e : List ℕ)
       → k ≡ length (ties (tableOf table) (take (getD table 0 0) set))
-      → g ≡ graphBuffer (getD table 0 0) (b .graph) ++ drop (graphSize (getD table 0 0)) graph
+      → g ≡ writtenOn (getD table 0 0) (b .graph) graph
       → e ≡ listed (ties (tableOf table) (take (getD table 0 0) set)) errors
       → s ≡ getD g 0 0 → r ≡ getD g 1 0
       → record { answer = Made (record { states = s; root = r; errors = k; words = words }); graph = g; errors = e } ≡ wroteOr9 n b graph errors
   states-done h k s r g e ek eg ee es′ er =
       enough n b graph errors (let x = words-are in omega arith) g e _
-      (eg ∙ ap (λ (x : ℕ). graphBuffer x (b .graph) ++ drop (graphSize x) graph) (sym en))
+      (eg ∙ ap (λ (x : ℕ). writtenOn x (b .graph) graph) (sym en))
       (ee ∙ ap (λ (l : List Bool). listed (ties (tableOf table) l) errors) part)
       (λ i. record { states = states i; root = root i; errors = number i; words = words-are i })
     where

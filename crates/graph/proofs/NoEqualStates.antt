@@ -1,10 +1,9 @@
 -- Of every table: no two states of the words that the build returned have the same marks, 256 targets and end target. The counts that are answered
 -- are those of the lists. Assumes nothing.
-use mathlib.Core.Path.{_≡_, refl, sym, ap, subst, _∙_}
-use mathlib.Core.List.{List, [], _∷_, _++_, map}
-use Prim.Native.Nat.{ℕ, zero, suc, _+_, _*_, _≤_, _<_}
-use native.Mathlib.Omega.{arith}
-use lib.ListN.{length, getD}
+use mathlib.Core.Path.{_≡_, sym, ap, subst, _∙_}
+use mathlib.Core.List.{List}
+use Prim.Native.Nat.{ℕ, _<_}
+use lib.ListN.{length}
 use Rattle.graph_rules.specs.Table.{tableOf}
 use Rattle.graph_rules.specs.Graph.{Graph, stateOf, graphFrom}
 use Rattle.graph_rules.specs.Build.{build}

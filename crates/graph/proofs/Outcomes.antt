@@ -1,8 +1,7 @@
 -- A build that is answered with counts: the table is legal, both buffers were long enough, and what stands in them is the build's. Assumes nothing.
-use mathlib.Core.Path.{_≡_, refl, sym, ap, subst, _∙_}
-use mathlib.Core.Bool.{Bool, true, false, cond}
+use mathlib.Core.Path.{_≡_, sym, ap, _∙_}
 use mathlib.Core.List.{List, _++_, append-assoc}
-use Prim.Native.Nat.{ℕ, _+_, _-_, _*_}
+use Prim.Native.Nat.{ℕ, _-_, _*_}
 use native.Mathlib.Omega.{arith}
 use borrow.Author.Tests.{eqb-true}
 use lib.Dec.{eqb, ltb}
@@ -12,7 +11,6 @@ use Rattle.graph_rules.specs.Table.{tableOf, refusal}
 use Rattle.graph_rules.specs.Graph.{graphWords, graphBuffer}
 use Rattle.graph_rules.specs.Build.{Built, build}
 use Rattle.graph.specs.declared.new.Counts.{Counts}
-use Rattle.graph.specs.declared.new.BuildAnswer.{BuildAnswer}
 use Rattle.graph.specs.declared.new.BuildAnswer.the-variants.{Built as Made, Refused}
 use Rattle.graph.specs.New.{Outcome, refusedBy, conflicts, countsOf, wrote, wroteOr9, writtenOr, newOf}
 use Rattle.graph_rules.specs.Layout.{rowWords, graphSize}

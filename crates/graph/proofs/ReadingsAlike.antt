@@ -2,19 +2,16 @@
 -- a table that is clean but for ties: a state whose leaves tie has no leaf in either reading. Assumes nothing.
 use mathlib.Core.Path.{_≡_, sym, ap, _∙_}
 use mathlib.Core.Bool.{true}
-use mathlib.Core.List.{List, [], _++_}
+use mathlib.Core.List.{List, []}
 use Prim.Native.Nat.{ℕ}
-use lib.ListN.{length}
-use Rattle.lists.specs.Report.{Report}
 use Rattle.graph_rules.specs.Table.{tableOf, refusal}
-use Rattle.graph_rules.specs.Graph.{graphFrom, graphFits}
+use Rattle.graph_rules.specs.Graph.{graphFits}
 use Rattle.graph_rules.specs.Build.{emptyLeaves}
-use Rattle.graph_rules.specs.Read.{Bytes, Orderly, Clean, Reading}
+use Rattle.graph_rules.specs.Read.{Bytes, Orderly, Clean}
 use Rattle.graph_rules.proofs.Promises.{built-taken, clean-no-empty, words-alike}
-use Rattle.readings.specs.declared.read.Read.{Read}
 use Rattle.graph.specs.declared.new.Counts.{Counts}
-use Rattle.graph.specs.declared.new.BuildAnswer.the-variants.{Built as Made}
 use Rattle.readings.specs.Answers.{reading, readReport, tableRead, graphRead}
+use Rattle.graph.specs.declared.new.BuildAnswer.the-variants.{Built as Made}
 use Rattle.graph.specs.New.{newOf}
 use Rattle.readings.proofs.Answering.{graph-answered, table-answered}
 use Rattle.graph.proofs.Outcomes.{answered, words-first}
@@ -23,7 +20,7 @@ module _ (table graph errors : List ℕ) (c : Counts) (made : newOf table graph 
   legal : refusal table ≡ 0
   legal = answered table graph errors c made .legal
 
-  -- the words that the build returned are taken by 12
+  -- the words that the build returned are well-formed
   pub returned-taken : graphFits (newOf table graph errors .graph) ≡ true
   returned-taken = ap graphFits (words-first table graph errors c made) ∙ built-taken table legal _
 

@@ -1,7 +1,7 @@
 -- Which refusal the build's calls tell, and the values that they tell otherwise, in document 01's numbers. Definitions only.
 use mathlib.Core.Bool.{_||_}
 use mathlib.Core.List.{List, [], _∷_}
-use Prim.Native.Nat.{ℕ, _+_, _*_, _%_}
+use Prim.Native.Nat.{ℕ, _%_}
 use lib.Dec.{eqb, ltb}
 use lib.ListN.{length, getD}
 use Rattle.lists.specs.Report.{on, lowest}

@@ -1,15 +1,17 @@
 // The build (document 01, "The build, as `Graph::new` does it after the DFA is built"): from a table's words to the graph's words and the
 // conflicts. All that can refuse is decided before a word is written.
+use words::NONE;
+use words::STATES;
 ghost use mathlib.Core.Path.{_≡_};
-ghost use mathlib.Core.Bool.{false};
+ghost use mathlib.Core.Bool.{true, false};
 ghost use mathlib.Core.Option.{some};
 ghost use mathlib.Core.List.{[], _∷_, _++_, map};
-ghost use Prim.Native.Nat.{_+_, _-_, _*_, _≤_};
-ghost use lib.ListN.{length, getD, drop, replicate};
+ghost use Prim.Native.Nat.{_-_, _*_, _≤_};
+ghost use lib.ListN.{length, getD, replicate};
 ghost use Rattle.graph_rules.specs.Table.{tableOf, refusal};
-ghost use Rattle.graph_rules.specs.Graph.{writtenOn};
+ghost use Rattle.graph_rules.specs.Graph.{graphFits, writtenOn};
 ghost use Rattle.graph_rules.specs.Build.{noUniversalStart, emptyMatch, emptyLeaves, noStates, reached, unpruned, pruned, merged, buildFrom};
-ghost use Rattle.graph.specs.New.{Outcome, wroteOr9, newOf};
+ghost use Rattle.graph.specs.New.{wroteOr9, newOf};
 ghost use Rattle.graph_rules.specs.Layout.{mostStates, graphSize};
 
 // How many states the graph has, its root, how many errors there are, and how many words they take.
@@ -83,17 +85,23 @@ fn with_empty(
 }
 
 // Rules 2 to 8: the graph of the states that are reached, written.
-fn write_graph(table: &[u16], start: usize, set: &[bool; 1024], graph: &mut [u16])
+fn write_graph(table: &[u16], start: usize, set: &[bool; STATES], graph: &mut [u16])
     requires { ⌜ refusal (now table) ≡ 0 ⌝ }
     requires { ⌜ tableOf (now table) .start ≡ some start ⌝ }
     requires { ⌜ now set ≡ reached (tableOf (now table)) start ++ replicate (mostStates - getD (now table) 0 0) false ⌝ }
     requires { ⌜ graphSize (getD (now table) 0 0) ≤ length (now graph) ⌝ }
     ensures { λ _. ⌜ now (graph .exit) ≡ writtenOn (getD (now (table .entry)) 0 0) (merged (pruned (unpruned (tableOf (now (table .entry))) start)) .graph) (now (graph .entry)) ⌝ }
+    ensures { λ _. ⌜ graphFits (now (graph .exit)) ≡ true ⌝ }
 {
+    // Rules 2 to 4: the reached states, renumbered, each with its leaf.
     rows::write(table, start, set, graph);
+    // Rule 5: early marks.
     early::early(graph);
+    // Rule 6: accepts that every parent has as early are cleared.
     clear::clear(graph);
+    // Rule 7: states from which nothing is matched are dropped.
     prune::prune(graph);
+    // Rule 8: equal states become one.
     merge::merge(graph);
 }
 
@@ -118,8 +126,8 @@ fn with_states(
     }
     conflicts::write_ties(table, &set, errors);
     write_graph(table, start, &set, graph);
-    let states = words::word(graph, 0);
-    let root = words::word(graph, 1);
+    let states = words::graph::states(graph);
+    let root = words::graph::root(graph);
     BuildAnswer::Built(Counts {
         states: states,
         root: root,
@@ -141,7 +149,7 @@ pub fn new(table: &[u16], graph: &mut [u16], errors: &mut [u16]) -> BuildAnswer
         return BuildAnswer::Refused(8);
     }
     let start = words::table::start(table);
-    if start == 65535 {
+    if start == NONE {
         return without_start(n, graph, errors);
     }
     let count = conflicts::count_empty(table);

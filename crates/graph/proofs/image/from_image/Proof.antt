@@ -1,17 +1,10 @@
 -- 13 by the image's length, or the build of its words. Assumes nothing.
-use mathlib.Core.Path.{_≡_, sym, ap, _∙_}
-use Prim.Native.Nat.{ℕ, _/_, _≤_}
-use native.Mathlib.Omega.{arith}
-use lib.ListN.{length}
+use mathlib.Core.Path.{sym, _∙_}
 use lib.Seq.{length-take-le}
 use Rattle.graph.proofs.Unpacking.{image-odd, image-long, image-taken, unpacked-long}
 use borrow.Author.Needs.{needs}
 use Rattle.graph.proofs.image.from_image.Statement.{statement}
 use Rattle.graph.proofs.image.from_image.Tie as tie
-use Rattle.graph.proofs.image.from_image.Reads as reads
-use Rattle.graph.proofs.image.from_image.Lts as lts
-use Rattle.graph.proofs.image.unpack.Reads as unpack-reads
-use Rattle.graph.proofs.new.new.Reads as new-reads
 
 returns : tie.Need-returns
 returns c =

@@ -6,9 +6,6 @@ use lib.ListN.{length-set}
 use Rattle.graph.proofs.Unpacking.{Unpacked, unpacked-none, unpacked-one, unpacked-all}
 use Rattle.graph.proofs.image.unpack.Statement.{statement}
 use Rattle.graph.proofs.image.unpack.Tie as tie
-use Rattle.graph.proofs.image.unpack.Reads as reads
-use Rattle.graph.proofs.image.unpack.Lts as lts
-use Rattle.graph.proofs.image.word.Reads as word-reads
 
 abbrev Inv-loop : tie.InvT-loop
 Inv-loop image out₀ n i₀ out i = Unpacked image out₀ i out

@@ -4,8 +4,6 @@ use native.Mathlib.Omega.{arith}
 use borrow.Author.Needs.{needs}
 use Rattle.graph.proofs.image.word.Statement.{statement}
 use Rattle.graph.proofs.image.word.Tie as tie
-use Rattle.graph.proofs.image.word.Reads as reads
-use Rattle.graph.proofs.image.word.Lts as lts
 
 mul-low : tie.Need-mul-low
 mul-low c = search needs

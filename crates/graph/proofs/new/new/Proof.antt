@@ -1,26 +1,15 @@
 -- The refusals in order, then rule 1 or rules 2 to 8. Assumes nothing.
-use mathlib.Core.Path.{_≡_, sym, ap, subst, _∙_}
-use mathlib.Core.Option.{Option, none, some}
-use mathlib.Core.List.{List}
-use Prim.Native.Nat.{ℕ, _+_, _*_, _≤_}
+use mathlib.Core.Path.{_≡_, sym, ap, _∙_}
+use mathlib.Core.Option.{Option, some}
+use Prim.Native.Nat.{ℕ, _≤_}
 use native.Mathlib.Omega.{arith}
-use lib.ListN.{length, getD}
+use lib.ListN.{length}
 use Rattle.graph_rules.specs.Table.{tableOf, refusal}
 use Rattle.graph_rules.proofs.Shape.{exact, few-states, refusal-small, start-none, start-some}
 use Rattle.graph.proofs.Building.{build-none, build-empty, build-states, new-refused, new-short, new-built}
 use borrow.Author.Needs.{needs}
 use Rattle.graph.proofs.new.new.Statement.{statement}
 use Rattle.graph.proofs.new.new.Tie as tie
-use Rattle.graph.proofs.new.new.Reads as reads
-use Rattle.graph.proofs.new.new.Lts as lts
-use Rattle.graph.proofs.new.with_empty.Reads as with-empty-reads
-use Rattle.graph.proofs.new.with_states.Reads as with-states-reads
-use Rattle.graph.proofs.new.without_start.Reads as without-start-reads
-use Rattle.legal.proofs.check.Reads as check-reads
-use Rattle.conflicts.proofs.count_empty.Reads as count-empty-reads
-use Rattle.words.proofs.graph.place.Reads as place-reads
-use Rattle.words.proofs.table.start.Reads as start-reads
-use Rattle.words.proofs.table.states.Reads as states-reads
 use Rattle.graph_rules.specs.Layout.{noState, mostStates, graphSize}
 
 -- what is known once the start is read

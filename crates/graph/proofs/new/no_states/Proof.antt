@@ -5,10 +5,6 @@ use native.Mathlib.Omega.{arith}
 use Rattle.graph.proofs.Written.{blank-words}
 use Rattle.graph.proofs.new.no_states.Statement.{statement}
 use Rattle.graph.proofs.new.no_states.Tie as tie
-use Rattle.graph.proofs.new.no_states.Reads as reads
-use Rattle.graph.proofs.new.no_states.Lts as lts
-use Rattle.words.proofs.graph.place.Reads as place-reads
-use Rattle.words.proofs.zero.Reads as zero-reads
 
 place-requires : tie.Need-place-requires
 place-requires c κs = search needs

@@ -1,21 +1,17 @@
 -- Three words an error; refused by 9, or both buffers written. Assumes nothing.
 use mathlib.Core.Path.{_≡_, sym, ap, _∙_}
 use mathlib.Core.List.{map, flatMap}
-use Prim.Native.Nat.{ℕ, _*_, _≤_}
+use Prim.Native.Nat.{ℕ, _*_}
 use native.Mathlib.Omega.{arith}
 use lib.ListN.{length, length-map}
 use Rattle.graph_rules.specs.Table.{tableOf}
 use Rattle.graph_rules.specs.Build.{Built, emptyMatch, errorWords, emptyLeaves, noStates}
-use Rattle.graph.specs.declared.new.Counts.{Counts}
 use Rattle.graph.specs.New.{conflicts}
-use Rattle.graph.proofs.Written.{short, enough, empty-words, few-empty}
+use Rattle.conflicts.proofs.Listing.{empty-words}
+use Rattle.graph.proofs.Written.{short, enough, few-empty}
 use borrow.Author.Needs.{needs}
 use Rattle.graph.proofs.new.with_empty.Statement.{statement}
 use Rattle.graph.proofs.new.with_empty.Tie as tie
-use Rattle.graph.proofs.new.with_empty.Reads as reads
-use Rattle.graph.proofs.new.with_empty.Lts as lts
-use Rattle.graph.proofs.new.no_states.Reads as no-states-reads
-use Rattle.conflicts.proofs.write_empty.Reads as write-empty-reads
 
 -- the build of a table whose leaves can match empty text
 abbrev built : tie.Start → Built

@@ -8,10 +8,6 @@ use Rattle.graph.specs.New.{conflicts}
 use Rattle.graph.proofs.Written.{short, enough}
 use Rattle.graph.proofs.new.without_start.Statement.{statement}
 use Rattle.graph.proofs.new.without_start.Tie as tie
-use Rattle.graph.proofs.new.without_start.Reads as reads
-use Rattle.graph.proofs.new.without_start.Lts as lts
-use Rattle.graph.proofs.new.no_states.Reads as no-states-reads
-use Rattle.conflicts.proofs.write_no_start.Reads as write-no-start-reads
 
 abbrev built : Built
 built = noStates (noUniversalStart ∷ [])

@@ -1,19 +1,13 @@
 -- Each rule's words are the next one's; together they are the build's. Assumes nothing.
-use mathlib.Core.Path.{_≡_, subst, sym, _∙_}
+use mathlib.Core.Path.{subst}
 use Prim.Native.Nat.{ℕ, _<_}
 use lib.ListN.{getD}
-use Rattle.graph_rules.specs.Table.{tableOf}
 use Rattle.graph_rules.proofs.Shape.{few-states, few-leaves, legal-start, size-is}
 use Rattle.graph.proofs.Stages.{stage-taken}
 use Rattle.graph.proofs.Composed.{first-stage, composed}
 use borrow.Author.Needs.{needs}
 use Rattle.graph.proofs.new.write_graph.Statement.{statement}
 use Rattle.graph.proofs.new.write_graph.Tie as tie
-use Rattle.graph.proofs.new.write_graph.Reads as reads
-use Rattle.graph.proofs.new.write_graph.Lts as lts
-use Rattle.clear.proofs.clear.Reads as clear-reads
-use Rattle.early.proofs.early.Reads as early-reads
-use Rattle.rows.proofs.write.Reads as write-reads
 
 write-requires : tie.Need-write-requires
 write-requires c κs =
@@ -28,7 +22,7 @@ early-requires c κs =
     let w = st .args .table .now in
     let legal = st .pre .0 in
     stage-taken (getD w 2 0) (getD w 0 0) (few-leaves w legal) (few-states w legal) (st .args .graph .now) _ _
-    (first-stage w legal (st .args .start) (st .pre .1 .0) (st .args .graph .now) _ (c .before .before .before .write .ensures .1))
+    (first-stage w legal (st .args .start) (st .pre .1 .0) (st .args .graph .now) _ (c .before .before .before .write .ensures))
 
 clear-requires : tie.Need-clear-requires
 clear-requires c κs = search needs
@@ -44,11 +38,18 @@ same-length c = search needs
 
 returns : tie.Need-returns
 returns c =
-    let st = c .before .before .before .before .before .before .before .before .before .before .before .before .before .before .before .before .before .before .before .before .before .before in
-    let w = st .args .table .now in
-    composed w (st .pre .0) (st .args .start) (st .pre .1 .0) (st .args .graph .now) _ _ _ _ _
-    (first-stage w (st .pre .0) (st .args .start) (st .pre .1 .0) (st .args .graph .now) _ (c .before .before .before .before .before .before .before .before .before .before .before .before .before .before .before .before .before .before .write .ensures .1))
-    (c .before .before .before .before .before .before .before .before .before .before .before .before .before .before .early .ensures .0) (c .before .before .before .before .before .before .before .before .before .before .clear .ensures .0) (c .before .before .before .before .before .before .prune .ensures .0) (c .before .before .merge .ensures .0)
+    let merge = c .before .before in
+    let prune = merge .before .before .before .before in
+    let clear = prune .before .before .before .before in
+    let early = clear .before .before .before .before in
+    let write = early .before .before .before .before in
+    let st = write .before .before .before .before in
+    let w = st .args .table .now in (
+      composed w (st .pre .0) (st .args .start) (st .pre .1 .0) (st .args .graph .now) _ _ _ _ _
+          (first-stage w (st .pre .0) (st .args .start) (st .pre .1 .0) (st .args .graph .now) _ (write .write .ensures))
+          (early .early .ensures .0) (clear .clear .ensures .0) (prune .prune .ensures .0) (merge .merge .ensures .0),
+      merge .merge .ensures .1,
+    )
 
 pub write-graph-spec : {M : Type 1} → statement M
 write-graph-spec =
