@@ -10,10 +10,10 @@ use borrow.Author.Tests.{lt-ltb, le-ltb, eq-eqb, ne-eqb}
 use lib.ListN.{length, getD, take, drop, set, length-append, length-set, drop-of-length-le}
 use lib.Seq.{sets, take-suc, length-take-le, ext-getD, getD-set-same, getD-set-other}
 use Rattle.lists.specs.Lists.{tab}
-use Rattle.lists.specs.Told.{Told}
+use Rattle.lists.specs.Report.{Report}
 use Rattle.lists.proofs.Buffers.{sets-append, sets-front}
 use Rattle.lists.proofs.Elements.{length-tab, getD-tab0}
-use Rattle.capi.specs.Lent.{Put, put, putTold}
+use Rattle.capi.specs.Lent.{Put, put, putReport}
 
 -- ---- a run of stores
 
@@ -90,8 +90,8 @@ module _ (bytes block : List ℕ) where
 -- ---- a count beside the bytes
 
 module _ (p : Put) (n : ℕ) {r : ℕ} (is : r ≡ p .refusal) where
-  pub told-taken : r ≡ 0 → putTold p n ≡ record { refusal = r; values = n ∷ [] }
-  told-taken z = rw (eq-eqb (p .refusal) 0 (sym is ∙ z)) (ap {B = Told} (λ (k : ℕ). record { refusal = k; values = n ∷ [] }) (sym z))
+  pub told-taken : r ≡ 0 → putReport p n ≡ record { refusal = r; values = n ∷ [] }
+  told-taken z = rw (eq-eqb (p .refusal) 0 (sym is ∙ z)) (ap {B = Report} (λ (k : ℕ). record { refusal = k; values = n ∷ [] }) (sym z))
 
-  pub told-refused : (r ≡ 0 → ⊥) → putTold p n ≡ record { refusal = r; values = 0 ∷ [] }
-  told-refused z = rw (ne-eqb (p .refusal) 0 (λ e. z (is ∙ e))) (ap {B = Told} (λ (k : ℕ). record { refusal = k; values = 0 ∷ [] }) (sym is))
+  pub told-refused : (r ≡ 0 → ⊥) → putReport p n ≡ record { refusal = r; values = 0 ∷ [] }
+  told-refused z = rw (ne-eqb (p .refusal) 0 (λ e. z (is ∙ e))) (ap {B = Report} (λ (k : ℕ). record { refusal = k; values = 0 ∷ [] }) (sym is))

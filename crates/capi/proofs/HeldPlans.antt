@@ -9,7 +9,7 @@ use borrow.Author.Tests.{eq-eqb, ne-eqb, leb-true}
 use lib.Dec.{eqb, leb, ltb}
 use lib.ListN.{length, drop, replicate, length-drop}
 use Rattle.lists.proofs.Bools.{Is, yes-is, no-is, is, and-both}
-use Rattle.rules.specs.Graph.{graphFrom, graphFits}
+use Rattle.graph_rules.specs.Graph.{graphFrom, graphFits}
 use Rattle.readings.specs.declared.read.Read.{Read}
 use Rattle.readings.specs.declared.read.Read.the-variants.{Refused}
 use Rattle.classes.specs.Classes.{Class}
@@ -19,7 +19,7 @@ use Rattle.mask_store.proofs.Growth.{length-all}
 use Rattle.plan_rules.specs.Plan.{base, needs, planSize}
 use Rattle.scans.specs.declared.scan.Scan.{Scan}
 use Rattle.scans.specs.List.{ScanList, noList}
-use Rattle.planning.specs.Plan.{PlanCall, planTold, noPlan, planCall}
+use Rattle.planning.specs.Plan.{PlanCall, planReport, noPlan, planCall}
 use Rattle.scans.specs.Scan.{past}
 use Rattle.plans.specs.Run.{planRefusal, runRefusal, runCall, plannedRefusal, plannedList}
 use Rattle.capi.specs.Stores.{isStore, storeIn}
@@ -146,7 +146,7 @@ module _ (graph plan tables : List ℕ) (count : ℕ) where
 
 -- graph words, plan buffer, store; c is what a call of planning leaves
 abbrev Leaves : PlanCall → List ℕ → MaskStore → Type 0
-Leaves c plan s = (planTold (c .planning .answer) .refusal ≡ 0 → ⊥) → (c .buffer ≡ plan) × (c .planning .store ≡ s)
+Leaves c plan s = (planReport (c .planning .answer) .refusal ≡ 0 → ⊥) → (c .buffer ≡ plan) × (c .planning .store ≡ s)
 
 call-leaves : (graph plan : List ℕ) (s : MaskStore) → Leaves (planCall base graph plan s) plan s
 unfolding planCall

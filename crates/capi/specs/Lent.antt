@@ -5,7 +5,7 @@ use Prim.Native.Nat.{ℕ}
 use lib.Dec.{eqb, ltb}
 use lib.ListN.{length, getD, drop}
 use Rattle.lists.specs.Lists.{tab}
-use Rattle.lists.specs.Told.{Told, telling, refusing}
+use Rattle.lists.specs.Report.{Report, reporting, refusing}
 use Rattle.classes.specs.Classes.{Class}
 
 -- ---- a class: byte b is in it if entry b is there and not 0. So all bytes, however many, are a class.
@@ -30,5 +30,5 @@ put bytes block =
     (record { refusal = 0; block = bytes ++ drop (length bytes) block })
 
 -- a count that is handed out beside them
-abbrev pub putTold : Put → ℕ → Told
-putTold p n = cond (eqb (p .refusal) 0) (telling (n ∷ [])) (refusing (p .refusal) 1)
+abbrev pub putReport : Put → ℕ → Report
+putReport p n = cond (eqb (p .refusal) 0) (reporting (n ∷ [])) (refusing (p .refusal) 1)

@@ -5,7 +5,7 @@ use mathlib.Core.List.{List}
 use Prim.Native.Nat.{ℕ}
 use lib.Dec.{ltb}
 use lib.ListN.{length}
-use Rattle.rules.specs.Graph.{graphFrom, graphFits}
+use Rattle.graph_rules.specs.Graph.{graphFrom, graphFits}
 use Rattle.readings.specs.declared.read.Read.{Read}
 use Rattle.readings.specs.declared.read.Read.the-variants.{Refused}
 use Rattle.mask_store.specs.Masks.{storeOf}

@@ -1,33 +1,33 @@
 // The build of a table's graph, and the conflicts that it finds.
 ghost use mathlib.Core.Path.{_≡_};
 ghost use mathlib.Core.List.{[], _∷_};
-ghost use Rattle.lists.specs.Told.{Told};
-ghost use Rattle.graph.specs.New.{builtTold, newOf, imageOf};
-use graph::new::Answer;
+ghost use Rattle.lists.specs.Report.{Report};
+ghost use Rattle.graph.specs.New.{builtReport, newOf, imageOf};
+use graph::new::BuildAnswer;
 
 // The answer of a build, stored.
 fn store(
-    answer: Answer,
+    answer: BuildAnswer,
     states: &mut usize,
     root: &mut usize,
     count: &mut usize,
     words: &mut usize,
 ) -> u8
-    ensures { λ r. ⌜ builtTold answer ≡ record { refusal = r; values = now (states .exit) ∷ now (root .exit) ∷ now (count .exit) ∷ now (words .exit) ∷ [] } ⌝ }
+    ensures { λ r. ⌜ builtReport answer ≡ record { refusal = r; values = now (states .exit) ∷ now (root .exit) ∷ now (count .exit) ∷ now (words .exit) ∷ [] } ⌝ }
 {
     *states = 0;
     *root = 0;
     *count = 0;
     *words = 0;
     match answer {
-        Answer::Built(counts) => {
+        BuildAnswer::Built(counts) => {
             *states = counts.states;
             *root = counts.root;
             *count = counts.errors;
             *words = counts.words;
             0
         }
-        Answer::Refused(n) => n,
+        BuildAnswer::Refused(n) => n,
     }
 }
 
@@ -42,7 +42,7 @@ pub extern "C" fn balthwyr_build(
     count: &mut usize,
     words: &mut usize,
 ) -> u8
-    ensures { λ r. ⌜ builtTold (newOf (now (table .entry)) (now (graph .entry)) (now (errors .entry)) .answer) ≡ record { refusal = r; values = now (states .exit) ∷ now (root .exit) ∷ now (count .exit) ∷ now (words .exit) ∷ [] } ⌝ }
+    ensures { λ r. ⌜ builtReport (newOf (now (table .entry)) (now (graph .entry)) (now (errors .entry)) .answer) ≡ record { refusal = r; values = now (states .exit) ∷ now (root .exit) ∷ now (count .exit) ∷ now (words .exit) ∷ [] } ⌝ }
     ensures { λ _. ⌜ now (graph .exit) ≡ newOf (now (table .entry)) (now (graph .entry)) (now (errors .entry)) .graph ⌝ }
     ensures { λ _. ⌜ now (errors .exit) ≡ newOf (now (table .entry)) (now (graph .entry)) (now (errors .entry)) .errors ⌝ }
 {
@@ -61,7 +61,7 @@ pub extern "C" fn balthwyr_build_image(
     count: &mut usize,
     words: &mut usize,
 ) -> u8
-    ensures { λ r. ⌜ builtTold (imageOf (now (image .entry)) (now (graph .entry)) (now (errors .entry)) .answer) ≡ record { refusal = r; values = now (states .exit) ∷ now (root .exit) ∷ now (count .exit) ∷ now (words .exit) ∷ [] } ⌝ }
+    ensures { λ r. ⌜ builtReport (imageOf (now (image .entry)) (now (graph .entry)) (now (errors .entry)) .answer) ≡ record { refusal = r; values = now (states .exit) ∷ now (root .exit) ∷ now (count .exit) ∷ now (words .exit) ∷ [] } ⌝ }
     ensures { λ _. ⌜ now (graph .exit) ≡ imageOf (now (image .entry)) (now (graph .entry)) (now (errors .entry)) .graph ⌝ }
     ensures { λ _. ⌜ now (errors .exit) ≡ imageOf (now (image .entry)) (now (graph .entry)) (now (errors .entry)) .errors ⌝ }
 {

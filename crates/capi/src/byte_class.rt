@@ -2,9 +2,9 @@
 // another.
 ghost use mathlib.Core.Path.{_≡_};
 ghost use mathlib.Core.List.{[], _∷_, _++_};
-ghost use Rattle.lists.specs.Told.{Told};
+ghost use Rattle.lists.specs.Report.{Report};
 ghost use Rattle.classes.specs.Classes.{cost};
-ghost use Rattle.capi.specs.Lent.{flagsOf, put, putTold};
+ghost use Rattle.capi.specs.Lent.{flagsOf, put, putReport};
 ghost use Rattle.capi.specs.Parts.{rangesOf, rangeBytes, cmpOf, cmpBytes};
 use classes::byte_class::Comparisons;
 
@@ -31,7 +31,7 @@ fn joined(a: [u8; 128], b: [u8; 128]) -> [u8; 256]
 // `ranges`.
 #[no_mangle]
 pub extern "C" fn balthwyr_ranges(flags: &[u8], parts: &mut [u8], count: &mut usize) -> u8
-    ensures { λ r. ⌜ putTold (put (rangeBytes (rangesOf (flagsOf (now (flags .entry))))) (now (parts .entry))) (rangesOf (flagsOf (now (flags .entry))) .count) ≡ record { refusal = r; values = now (count .exit) ∷ [] } ⌝ }
+    ensures { λ r. ⌜ putReport (put (rangeBytes (rangesOf (flagsOf (now (flags .entry))))) (now (parts .entry))) (rangesOf (flagsOf (now (flags .entry))) .count) ≡ record { refusal = r; values = now (count .exit) ∷ [] } ⌝ }
     ensures { λ _. ⌜ now (parts .exit) ≡ put (rangeBytes (rangesOf (flagsOf (now (flags .entry))))) (now (parts .entry)) .block ⌝ }
 {
     let class = crate::lent::flags_of(flags);
@@ -62,7 +62,7 @@ fn cmp_bytes(cmp: Comparisons) -> [u8; 512]
 // `impl_with_cmp`.
 #[no_mangle]
 pub extern "C" fn balthwyr_impl_with_cmp(flags: &[u8], parts: &mut [u8], count: &mut usize) -> u8
-    ensures { λ r. ⌜ putTold (put (cmpBytes (cmpOf (flagsOf (now (flags .entry))))) (now (parts .entry))) (cmpOf (flagsOf (now (flags .entry))) .count) ≡ record { refusal = r; values = now (count .exit) ∷ [] } ⌝ }
+    ensures { λ r. ⌜ putReport (put (cmpBytes (cmpOf (flagsOf (now (flags .entry))))) (now (parts .entry))) (cmpOf (flagsOf (now (flags .entry))) .count) ≡ record { refusal = r; values = now (count .exit) ∷ [] } ⌝ }
     ensures { λ _. ⌜ now (parts .exit) ≡ put (cmpBytes (cmpOf (flagsOf (now (flags .entry))))) (now (parts .entry)) .block ⌝ }
 {
     let class = crate::lent::flags_of(flags);

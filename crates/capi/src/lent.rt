@@ -4,8 +4,8 @@ ghost use mathlib.Core.List.{[], _∷_};
 ghost use Prim.Native.Nat.{_+_, _≤_};
 ghost use lib.ListN.{length};
 ghost use lib.Seq.{sets};
-ghost use Rattle.lists.specs.Told.{Told};
-ghost use Rattle.capi.specs.Lent.{isFlag, flagsOf, put, putTold};
+ghost use Rattle.lists.specs.Report.{Report};
+ghost use Rattle.capi.specs.Lent.{isFlag, flagsOf, put, putReport};
 
 // Whether entry b is there and not 0.
 fn is_flag(flags: &[u8], b: usize) -> bool
@@ -52,7 +52,7 @@ pub fn put(bytes: &[u8], block: &mut [u8]) -> u8
 
 // The same with a count beside the bytes.
 pub fn put_counted(bytes: &[u8], n: usize, block: &mut [u8], count: &mut usize) -> u8
-    ensures { λ r. ⌜ putTold (put (now (bytes .entry)) (now (block .entry))) n ≡ record { refusal = r; values = now (count .exit) ∷ [] } ⌝ }
+    ensures { λ r. ⌜ putReport (put (now (bytes .entry)) (now (block .entry))) n ≡ record { refusal = r; values = now (count .exit) ∷ [] } ⌝ }
     ensures { λ _. ⌜ now (block .exit) ≡ put (now (bytes .entry)) (now (block .entry)) .block ⌝ }
 {
     let refusal = put(bytes, block);

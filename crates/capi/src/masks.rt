@@ -2,8 +2,8 @@
 ghost use mathlib.Core.Path.{_≡_};
 ghost use mathlib.Core.List.{[], _∷_};
 ghost use lib.ListN.{length};
-ghost use Rattle.lists.specs.Told.{Told};
-ghost use Rattle.mask_store.specs.Masks.{storeOf, addTold};
+ghost use Rattle.lists.specs.Report.{Report};
+ghost use Rattle.mask_store.specs.Masks.{storeOf, addReport};
 ghost use Rattle.capi.specs.Lent.{flagsOf};
 ghost use Rattle.capi.specs.Stores.{storeIn, addTo, flat, renderTo};
 use mask_store::AddAnswer;
@@ -37,7 +37,7 @@ pub fn store_in(tables: &[u8], count: usize) -> MaskStore
 
 // The answer to an added class, stored.
 fn store_number(answer: AddAnswer, number: &mut usize) -> u8
-    ensures { λ r. ⌜ addTold answer ≡ record { refusal = r; values = now (number .exit) ∷ [] } ⌝ }
+    ensures { λ r. ⌜ addReport answer ≡ record { refusal = r; values = now (number .exit) ∷ [] } ⌝ }
 {
     *number = 0;
     match answer {
@@ -57,7 +57,7 @@ pub extern "C" fn balthwyr_add_test_to_lut(
     flags: &[u8],
     number: &mut usize,
 ) -> u8
-    ensures { λ r. ⌜ addTold (addTo (now (tables .entry)) (now (count .entry)) (flagsOf (now (flags .entry))) .answer) ≡ record { refusal = r; values = now (number .exit) ∷ [] } ⌝ }
+    ensures { λ r. ⌜ addReport (addTo (now (tables .entry)) (now (count .entry)) (flagsOf (now (flags .entry))) .answer) ≡ record { refusal = r; values = now (number .exit) ∷ [] } ⌝ }
     ensures { λ _. ⌜ now (tables .exit) ≡ addTo (now (tables .entry)) (now (count .entry)) (flagsOf (now (flags .entry))) .store .tables ⌝ }
     ensures { λ _. ⌜ now (count .exit) ≡ addTo (now (tables .entry)) (now (count .entry)) (flagsOf (now (flags .entry))) .store .count ⌝ }
 {

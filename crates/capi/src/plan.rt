@@ -1,14 +1,14 @@
 // Planning a graph on the mask store that the caller holds.
 ghost use mathlib.Core.Path.{_≡_};
 ghost use mathlib.Core.List.{[], _∷_};
-ghost use Rattle.lists.specs.Told.{Told};
-ghost use Rattle.planning.specs.Plan.{planTold};
+ghost use Rattle.lists.specs.Report.{Report};
+ghost use Rattle.planning.specs.Plan.{planReport};
 ghost use Rattle.capi.specs.Plans.{planIn};
 use plans::plan::PlanAnswer;
 
 // The answer of planning, stored.
 fn store(answer: PlanAnswer, added: &mut usize) -> u8
-    ensures { λ r. ⌜ planTold answer ≡ record { refusal = r; values = now (added .exit) ∷ [] } ⌝ }
+    ensures { λ r. ⌜ planReport answer ≡ record { refusal = r; values = now (added .exit) ∷ [] } ⌝ }
 {
     *added = 0;
     match answer {
@@ -29,7 +29,7 @@ pub extern "C" fn balthwyr_plan(
     count: &mut usize,
     added: &mut usize,
 ) -> u8
-    ensures { λ r. ⌜ planTold (planIn (now (graph .entry)) (now (plan .entry)) (now (tables .entry)) (now (count .entry)) .planning .answer) ≡ record { refusal = r; values = now (added .exit) ∷ [] } ⌝ }
+    ensures { λ r. ⌜ planReport (planIn (now (graph .entry)) (now (plan .entry)) (now (tables .entry)) (now (count .entry)) .planning .answer) ≡ record { refusal = r; values = now (added .exit) ∷ [] } ⌝ }
     ensures { λ _. ⌜ now (plan .exit) ≡ planIn (now (graph .entry)) (now (plan .entry)) (now (tables .entry)) (now (count .entry)) .buffer ⌝ }
     ensures { λ _. ⌜ now (tables .exit) ≡ planIn (now (graph .entry)) (now (plan .entry)) (now (tables .entry)) (now (count .entry)) .planning .store .tables ⌝ }
     ensures { λ _. ⌜ now (count .exit) ≡ planIn (now (graph .entry)) (now (plan .entry)) (now (tables .entry)) (now (count .entry)) .planning .store .count ⌝ }

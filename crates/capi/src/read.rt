@@ -1,14 +1,14 @@
 // The readings of a text.
 ghost use mathlib.Core.Path.{_≡_};
 ghost use mathlib.Core.List.{[], _∷_};
-ghost use Rattle.lists.specs.Told.{Told};
-ghost use Rattle.readings.specs.Answers.{readTold, graphRead, tableRead};
+ghost use Rattle.lists.specs.Report.{Report};
+ghost use Rattle.readings.specs.Answers.{readReport, graphRead, tableRead};
 ghost use Rattle.capi.specs.Plans.{runIn};
 use graph::read::Read;
 
 // A reading, stored.
 fn store(answer: Read, found: &mut usize, leaf: &mut usize, end: &mut usize) -> u8
-    ensures { λ r. ⌜ readTold answer ≡ record { refusal = r; values = now (found .exit) ∷ now (leaf .exit) ∷ now (end .exit) ∷ [] } ⌝ }
+    ensures { λ r. ⌜ readReport answer ≡ record { refusal = r; values = now (found .exit) ∷ now (leaf .exit) ∷ now (end .exit) ∷ [] } ⌝ }
 {
     *found = 0;
     *leaf = 0;
@@ -34,7 +34,7 @@ pub extern "C" fn balthwyr_read_graph(
     leaf: &mut usize,
     end: &mut usize,
 ) -> u8
-    ensures { λ r. ⌜ readTold (graphRead (now (graph .entry)) (now (text .entry))) ≡ record { refusal = r; values = now (found .exit) ∷ now (leaf .exit) ∷ now (end .exit) ∷ [] } ⌝ }
+    ensures { λ r. ⌜ readReport (graphRead (now (graph .entry)) (now (text .entry))) ≡ record { refusal = r; values = now (found .exit) ∷ now (leaf .exit) ∷ now (end .exit) ∷ [] } ⌝ }
 {
     store(graph::read::read_graph(graph, text), found, leaf, end)
 }
@@ -48,7 +48,7 @@ pub extern "C" fn balthwyr_read_table(
     leaf: &mut usize,
     end: &mut usize,
 ) -> u8
-    ensures { λ r. ⌜ readTold (tableRead (now (table .entry)) (now (text .entry))) ≡ record { refusal = r; values = now (found .exit) ∷ now (leaf .exit) ∷ now (end .exit) ∷ [] } ⌝ }
+    ensures { λ r. ⌜ readReport (tableRead (now (table .entry)) (now (text .entry))) ≡ record { refusal = r; values = now (found .exit) ∷ now (leaf .exit) ∷ now (end .exit) ∷ [] } ⌝ }
 {
     store(graph::read_table::read_table(table, text), found, leaf, end)
 }
@@ -65,7 +65,7 @@ pub extern "C" fn balthwyr_run(
     leaf: &mut usize,
     end: &mut usize,
 ) -> u8
-    ensures { λ r. ⌜ readTold (runIn (now (graph .entry)) (now (plan .entry)) (now (tables .entry)) count (now (text .entry))) ≡ record { refusal = r; values = now (found .exit) ∷ now (leaf .exit) ∷ now (end .exit) ∷ [] } ⌝ }
+    ensures { λ r. ⌜ readReport (runIn (now (graph .entry)) (now (plan .entry)) (now (tables .entry)) count (now (text .entry))) ≡ record { refusal = r; values = now (found .exit) ∷ now (leaf .exit) ∷ now (end .exit) ∷ [] } ⌝ }
 {
     let held = crate::masks::store_in(tables, count);
     store(plans::run::run(graph, plan, held, text), found, leaf, end)

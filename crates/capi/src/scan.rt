@@ -1,13 +1,13 @@
 // The scan, which is held by the caller as one number.
 ghost use mathlib.Core.Path.{_≡_};
 ghost use mathlib.Core.List.{[], _∷_};
-ghost use Rattle.lists.specs.Told.{Told};
-ghost use Rattle.scans.specs.Scan.{scanTold, next};
-ghost use Rattle.scans.specs.List.{listTold, scanList};
+ghost use Rattle.lists.specs.Report.{Report};
+ghost use Rattle.scans.specs.Scan.{scanReport, next};
+ghost use Rattle.scans.specs.List.{listReport, scanList};
 ghost use Rattle.capi.specs.Plans.{listIn};
 ghost use Rattle.capi.specs.Scans.{scanOf, numberOf};
 use plans::list::ListAnswer;
-use plans::scan::Answer;
+use plans::scan::NextAnswer;
 use plans::scan::Place;
 use plans::scan::Scan;
 
@@ -40,34 +40,34 @@ fn number_of(scan: Scan) -> usize
 
 // An answer of the scan, stored.
 fn store(
-    answer: Answer,
+    answer: NextAnswer,
     kind: &mut usize,
     leaf: &mut usize,
     start: &mut usize,
     end: &mut usize,
 ) -> u8
-    ensures { λ r. ⌜ scanTold answer ≡ record { refusal = r; values = now (kind .exit) ∷ now (leaf .exit) ∷ now (start .exit) ∷ now (end .exit) ∷ [] } ⌝ }
+    ensures { λ r. ⌜ scanReport answer ≡ record { refusal = r; values = now (kind .exit) ∷ now (leaf .exit) ∷ now (start .exit) ∷ now (end .exit) ∷ [] } ⌝ }
 {
     *kind = 0;
     *leaf = 0;
     *start = 0;
     *end = 0;
     match answer {
-        Answer::Token(l, s, e) => {
+        NextAnswer::Token(l, s, e) => {
             *kind = 1;
             *leaf = l;
             *start = s;
             *end = e;
             0
         }
-        Answer::Gap(s, e) => {
+        NextAnswer::Gap(s, e) => {
             *kind = 2;
             *start = s;
             *end = e;
             0
         }
-        Answer::Ended => 0,
-        Answer::Refused(n) => n,
+        NextAnswer::Ended => 0,
+        NextAnswer::Refused(n) => n,
     }
 }
 
@@ -82,7 +82,7 @@ pub extern "C" fn balthwyr_scan_next(
     start: &mut usize,
     end: &mut usize,
 ) -> u8
-    ensures { λ r. ⌜ scanTold (next (now (graph .entry)) (now (text .entry)) (scanOf (now (scan .entry))) .answer) ≡ record { refusal = r; values = now (kind .exit) ∷ now (leaf .exit) ∷ now (start .exit) ∷ now (end .exit) ∷ [] } ⌝ }
+    ensures { λ r. ⌜ scanReport (next (now (graph .entry)) (now (text .entry)) (scanOf (now (scan .entry))) .answer) ≡ record { refusal = r; values = now (kind .exit) ∷ now (leaf .exit) ∷ now (start .exit) ∷ now (end .exit) ∷ [] } ⌝ }
     ensures { λ _. ⌜ now (scan .exit) ≡ numberOf (next (now (graph .entry)) (now (text .entry)) (scanOf (now (scan .entry))) .scan) ⌝ }
 {
     let scanned = scan_of(*scan).next(graph, text);
@@ -93,7 +93,7 @@ pub extern "C" fn balthwyr_scan_next(
 
 // The answer of a list, stored.
 fn store_list(answer: ListAnswer, entries: &mut usize) -> u8
-    ensures { λ r. ⌜ listTold answer ≡ record { refusal = r; values = now (entries .exit) ∷ [] } ⌝ }
+    ensures { λ r. ⌜ listReport answer ≡ record { refusal = r; values = now (entries .exit) ∷ [] } ⌝ }
 {
     *entries = 0;
     match answer {
@@ -114,7 +114,7 @@ pub extern "C" fn balthwyr_scan_list(
     out: &mut [usize],
     entries: &mut usize,
 ) -> u8
-    ensures { λ r. ⌜ listTold (scanList (now (graph .entry)) (now (text .entry)) (scanOf (now (scan .entry))) (now (out .entry)) .listed .answer) ≡ record { refusal = r; values = now (entries .exit) ∷ [] } ⌝ }
+    ensures { λ r. ⌜ listReport (scanList (now (graph .entry)) (now (text .entry)) (scanOf (now (scan .entry))) (now (out .entry)) .listed .answer) ≡ record { refusal = r; values = now (entries .exit) ∷ [] } ⌝ }
     ensures { λ _. ⌜ now (scan .exit) ≡ numberOf (scanList (now (graph .entry)) (now (text .entry)) (scanOf (now (scan .entry))) (now (out .entry)) .listed .scan) ⌝ }
     ensures { λ _. ⌜ now (out .exit) ≡ scanList (now (graph .entry)) (now (text .entry)) (scanOf (now (scan .entry))) (now (out .entry)) .buffer ⌝ }
 {
@@ -136,7 +136,7 @@ pub extern "C" fn balthwyr_scan_planned(
     out: &mut [usize],
     entries: &mut usize,
 ) -> u8
-    ensures { λ r. ⌜ listTold (listIn (now (graph .entry)) (now (plan .entry)) (now (tables .entry)) count (now (text .entry)) (scanOf (now (scan .entry))) (now (out .entry)) .listed .answer) ≡ record { refusal = r; values = now (entries .exit) ∷ [] } ⌝ }
+    ensures { λ r. ⌜ listReport (listIn (now (graph .entry)) (now (plan .entry)) (now (tables .entry)) count (now (text .entry)) (scanOf (now (scan .entry))) (now (out .entry)) .listed .answer) ≡ record { refusal = r; values = now (entries .exit) ∷ [] } ⌝ }
     ensures { λ _. ⌜ now (scan .exit) ≡ numberOf (listIn (now (graph .entry)) (now (plan .entry)) (now (tables .entry)) count (now (text .entry)) (scanOf (now (scan .entry))) (now (out .entry)) .listed .scan) ⌝ }
     ensures { λ _. ⌜ now (out .exit) ≡ listIn (now (graph .entry)) (now (plan .entry)) (now (tables .entry)) count (now (text .entry)) (scanOf (now (scan .entry))) (now (out .entry)) .buffer ⌝ }
 {

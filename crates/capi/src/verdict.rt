@@ -1,13 +1,13 @@
 // Whether a table is clean.
 ghost use mathlib.Core.Path.{_≡_};
 ghost use mathlib.Core.List.{[], _∷_};
-ghost use Rattle.lists.specs.Told.{Told};
-ghost use Rattle.clean.specs.Answers.{cleanTold, cleanOf};
+ghost use Rattle.lists.specs.Report.{Report};
+ghost use Rattle.clean.specs.Answers.{cleanReport, cleanOf};
 use clean::Verdict;
 
 // A verdict, stored.
 fn store(answer: Verdict, rule: &mut usize, state: &mut usize) -> u8
-    ensures { λ r. ⌜ cleanTold answer ≡ record { refusal = r; values = now (rule .exit) ∷ now (state .exit) ∷ [] } ⌝ }
+    ensures { λ r. ⌜ cleanReport answer ≡ record { refusal = r; values = now (rule .exit) ∷ now (state .exit) ∷ [] } ⌝ }
 {
     *rule = 0;
     *state = 0;
@@ -25,7 +25,7 @@ fn store(answer: Verdict, rule: &mut usize, state: &mut usize) -> u8
 // `clean`.
 #[no_mangle]
 pub extern "C" fn balthwyr_clean(table: &[u16], rule: &mut usize, state: &mut usize) -> u8
-    ensures { λ r. ⌜ cleanTold (cleanOf (now (table .entry))) ≡ record { refusal = r; values = now (rule .exit) ∷ now (state .exit) ∷ [] } ⌝ }
+    ensures { λ r. ⌜ cleanReport (cleanOf (now (table .entry))) ≡ record { refusal = r; values = now (rule .exit) ∷ now (state .exit) ∷ [] } ⌝ }
 {
     store(clean::clean(table), rule, state)
 }

@@ -5,17 +5,17 @@ use mathlib.Core.Bool.{Bool, true, false, false≢true}
 use mathlib.Core.List.{List, [], _∷_, map}
 use native.Mathlib.Omega.{arith}
 use lib.ListN.{length, getD}
-use Rattle.rules.specs.Table.{tableOf}
-use Rattle.rules.specs.Graph.{FromRoot, reachedStates}
-use Rattle.rules.specs.Build.{build}
-use Rattle.rules.proofs.FromRoot.{computed-reached, reached-computed}
+use Rattle.graph_rules.specs.Table.{tableOf}
+use Rattle.graph_rules.specs.Graph.{FromRoot, reachedStates}
+use Rattle.graph_rules.specs.Build.{build}
+use Rattle.graph_rules.proofs.FromRoot.{computed-reached, reached-computed}
 use Rattle.cases.specs.Answers.{graphOf}
 use Rattle.cases.specs.Table.{k1, k4}
 use Rattle.cases.specs.Cleanness.{cleanNumbers, zeroBack, zeroLeaf, cleanness}
 
-pub all-told : (length cleanness ≡ 15) × (map (λ c. c .got) cleanness ≡ map (λ c. c .wanted) cleanness)
+pub all-report : (length cleanness ≡ 15) × (map (λ c. c .got) cleanness ≡ map (λ c. c .wanted) cleanness)
 unfolding cleanness k1 k4 zeroBack zeroLeaf cleanNumbers
-all-told = (refl, refl)
+all-report = (refl, refl)
 
 -- ---- the graph of the table in which state 0 goes by `a` to state 1, the start, and all else to 0. Steps to 0 are dropped, so the root, 1, has no edge.
 

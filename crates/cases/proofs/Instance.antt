@@ -12,13 +12,13 @@ use lib.ListN.{length, replicate, length-replicate}
 use Rattle.lists.specs.Lists.{allL}
 use Rattle.lists.proofs.Bools.{none-some}
 use Rattle.lists.proofs.Elements.{all-at}
-use Rattle.rules.specs.Table.{Table, tableOf, step, rowOf}
-use Rattle.rules.specs.Build.{build, emptyLeaves, chain, leafOf}
-use Rattle.rules.specs.Graph.{graphBuffer, stateFrom, graphFrom, graphFits}
-use Rattle.rules.specs.Read.{Bytes, Orderly, Clean}
+use Rattle.graph_rules.specs.Table.{Table, tableOf, step, rowOf}
+use Rattle.graph_rules.specs.Build.{build, emptyLeaves, chain, leafOf}
+use Rattle.graph_rules.specs.Graph.{graphBuffer, stateFrom, graphFrom, graphFits}
+use Rattle.graph_rules.specs.Read.{Bytes, Orderly, Clean}
 use Rattle.readings.specs.Answers.{tableRead}
 use Rattle.graph.specs.New.{conflicts, wrote, wroteOr9, writtenOr, newOf}
-use Rattle.graph.specs.declared.new.Answer.the-variants.{Built as Made}
+use Rattle.graph.specs.declared.new.BuildAnswer.the-variants.{Built as Made}
 use Rattle.mask_store.specs.declared.MaskStore.{MaskStore}
 use Rattle.mask_store.specs.Masks.{tableAt, classAt, held, written, heldWith, grown, allowed, takes}
 use Rattle.edges.specs.Edges.{classTo, leadsTo, targets}

@@ -3,25 +3,25 @@ use mathlib.Core.List.{List, [], _∷_, _++_, map, flatMap}
 use mathlib.Core.Option.{none, some}
 use Prim.Native.Nat.{ℕ, zero, suc, _/_, _%_}
 use Rattle.lists.specs.Sets.{closure, round, rounds}
-use Rattle.lists.specs.Told.{Told}
+use Rattle.lists.specs.Report.{Report}
 use Rattle.classes.specs.Classes.{Class, ranges, comparisons, cost}
 use Rattle.utf8.specs.Utf8.{lines, divided, codePoints}
 use Rattle.trees.specs.Tree.{recordOf, treeOf, chainFrom, chainAt, treeAt, root, rules, ruleOf, fieldsFit, recordFits, named, treeFits}
-use Rattle.pattern.specs.Priority.{priority, valueAt, tooHigh, priorityOf, priorityTold}
-use Rattle.rules.specs.Table.{tableOf, refusal, conditions, matchFits, size, rowOf, step, leafAt, matchOf, countsFit, emptiesFit, targetsFit, headsFit, recordsFit}
-use Rattle.rules.specs.Graph.{stateOf, to, acceptOf, earlyOf, leads, same, stateWords, graphWords, stateFrom, graphFrom, graphFits}
-use Rattle.rules.specs.Build.{errorWords, build, emptyLeaves, unpruned, merged, mergesNone, mergeRound, pruned, kept, withCleared, cleared, covered, withEarly, children, wholeGraph, firstState, ties, leafOf, contenders, chain, restrict, relabel, renamed, reached}
-use Rattle.rules.specs.Read.{readTable, readGraph, tableWalker, graphWalker}
-use Rattle.readings.specs.Answers.{readTold, tableRead, graphRead}
+use Rattle.pattern.specs.Priority.{priority, valueAt, tooHigh, priorityOf, priorityReport}
+use Rattle.graph_rules.specs.Table.{tableOf, refusal, conditions, matchFits, size, rowOf, step, leafAt, matchOf, countsFit, emptiesFit, targetsFit, headsFit, recordsFit}
+use Rattle.graph_rules.specs.Graph.{stateOf, to, acceptOf, earlyOf, leads, same, stateWords, graphWords, stateFrom, graphFrom, graphFits}
+use Rattle.graph_rules.specs.Build.{errorWords, build, emptyLeaves, unpruned, merged, mergesNone, mergeRound, pruned, kept, withCleared, cleared, covered, withEarly, children, wholeGraph, firstState, ties, leafOf, contenders, chain, restrict, relabel, renamed, reached}
+use Rattle.graph_rules.specs.Read.{readTable, readGraph, tableWalker, graphWalker}
+use Rattle.readings.specs.Answers.{readReport, tableRead, graphRead}
 use Rattle.graph.specs.New.{conflicts, wrote, wroteOr9, writtenOr, newOf, imageOf}
 use Rattle.scans.specs.declared.scan.Scan.{Scan}
-use Rattle.scans.specs.Scan.{fresh, gapLength, next, scanTold}
+use Rattle.scans.specs.Scan.{fresh, gapLength, next, scanReport}
 use Rattle.edges.specs.Edges.{classTo, leadsTo, targets}
 use Rattle.display.specs.Text.{decimal}
 use Rattle.display.specs.Display.{letterOf, escaped, rangeText, classText, firstLine, edgeLine, stateText, displayed, lineOf, conflictLine}
 use Rattle.print.specs.Print.{space, printedBuild, refusedLine, printed}
 
-abbrev pub numbers : Told → List ℕ
+abbrev pub numbers : Report → List ℕ
 numbers t = t .refusal ∷ t .values
 
 -- ---- classes
@@ -34,7 +34,7 @@ costOf c = cost c ∷ []
 
 unfoldable pub priorityNumbers : List ℕ → List ℕ → List ℕ
 unfolding lines divided codePoints recordOf treeOf chainFrom chainAt treeAt root rules ruleOf fieldsFit recordFits named treeFits priority valueAt tooHigh priorityOf
-priorityNumbers tree bytes = numbers (priorityTold (priorityOf tree bytes))
+priorityNumbers tree bytes = numbers (priorityReport (priorityOf tree bytes))
 
 -- ---- a table's build
 
@@ -67,13 +67,13 @@ printedOf w = printed (imageBytes w)
 
 unfoldable pub readBoth : List ℕ → List ℕ → List ℕ
 unfolding refusalOf graphOf stateFrom graphFrom graphFits readTable readGraph tableWalker graphWalker tableRead graphRead
-readBoth w text = numbers (readTold (tableRead w text)) ++ numbers (readTold (graphRead (graphOf w) text))
+readBoth w text = numbers (readReport (tableRead w text)) ++ numbers (readReport (graphRead (graphOf w) text))
 
 -- the answers of k calls of the scan
 unfoldable pub calls : ℕ → List ℕ → List ℕ → Scan → List ℕ
 unfolding readBoth gapLength next
 calls zero graph text scan = []
-calls (suc k) graph text scan = let a = next graph text scan in numbers (scanTold (a .answer)) ++ calls k graph text (a .scan)
+calls (suc k) graph text scan = let a = next graph text scan in numbers (scanReport (a .answer)) ++ calls k graph text (a .scan)
 
 unfoldable pub scanned : ℕ → List ℕ → List ℕ → List ℕ
 unfolding calls

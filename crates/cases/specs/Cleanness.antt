@@ -3,14 +3,14 @@
 use mathlib.Core.List.{List, [], _∷_, _++_}
 use Prim.Native.Nat.{ℕ}
 use lib.ListN.{replicate}
-use Rattle.rules.specs.Clean.{tied, errorAt, zeroDead, zeroAt, bytesLeaf, endless, endAt, breach}
-use Rattle.clean.specs.Answers.{cleanOf, cleanTold}
+use Rattle.graph_rules.specs.Clean.{tied, errorAt, zeroDead, zeroAt, bytesLeaf, endless, endAt, breach}
+use Rattle.clean.specs.Answers.{cleanOf, cleanReport}
 use Rattle.cases.specs.Answers.{numbers, refusalOf, graphOf}
 use Rattle.cases.specs.Table.{Case, case, by, all, k1, k4}
 
 unfoldable pub cleanNumbers : List ℕ → List ℕ
 unfolding refusalOf graphOf tied errorAt zeroDead zeroAt bytesLeaf endless endAt breach cleanOf
-cleanNumbers w = numbers (cleanTold (cleanOf w))
+cleanNumbers w = numbers (cleanReport (cleanOf w))
 
 -- ---- table words
 

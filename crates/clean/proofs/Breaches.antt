@@ -12,12 +12,12 @@ use lib.ListN.{length, getD, replicate}
 use Rattle.lists.specs.Lists.{below, those, select, sorted}
 use Rattle.lists.proofs.Bools.{Is, is, yes-is, no-is}
 use Rattle.lists.proofs.Sorted.{sorted-length}
-use Rattle.rules.specs.Table.{Table, tableOf, refusal, size}
-use Rattle.rules.specs.Graph.{orNone}
-use Rattle.rules.specs.Build.{disambiguation, build, buildFrom, emptyLeaves, contenders, reached, ties}
-use Rattle.rules.specs.Clean.{first, reachedFrom, tied, firstError, errorAt, zeroDead, zeroAt, endless, endAt, firstBreach, breach}
-use Rattle.rules.proofs.Shape.{legal-shaped, size-is}
-use Rattle.rules.proofs.Unpruned.{reached-length}
+use Rattle.graph_rules.specs.Table.{Table, tableOf, refusal, size}
+use Rattle.graph_rules.specs.Graph.{orNone}
+use Rattle.graph_rules.specs.Build.{disambiguation, build, buildFrom, emptyLeaves, contenders, reached, ties}
+use Rattle.graph_rules.specs.Clean.{first, reachedFrom, tied, firstError, errorAt, zeroDead, zeroAt, endless, endAt, firstBreach, breach}
+use Rattle.graph_rules.proofs.Shape.{legal-shaped, size-is}
+use Rattle.graph_rules.proofs.Unpruned.{reached-length}
 use Rattle.clean.specs.declared.Verdict.the-variants.{Refused}
 use Rattle.clean.specs.Answers.{verdict, cleanOf}
 use Rattle.clean.specs.Held.{lowest}

@@ -2,4 +2,4 @@ pub mod Ties
 pub mod Lowest
 pub mod Rows
 pub mod Breaches
-pub mod Told
+pub mod Report

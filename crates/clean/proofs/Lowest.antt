@@ -13,9 +13,9 @@ use Rattle.lists.specs.Sets.{In}
 use Rattle.lists.proofs.Bools.{Is, is, yes-is, no-is}
 use Rattle.lists.proofs.Elements.{length-tab}
 use Rattle.lists.proofs.Selections.{select-in, select-out, select-none, select-take}
-use Rattle.rules.specs.Graph.{orNone}
-use Rattle.rules.specs.Clean.{first}
-use Rattle.rules.proofs.Nones.{or-none, or-number}
+use Rattle.graph_rules.specs.Graph.{orNone}
+use Rattle.graph_rules.specs.Clean.{first}
+use Rattle.graph_rules.proofs.Nones.{or-none, or-number}
 use Rattle.clean.specs.Held.{lowest}
 
 -- those from state s on

@@ -14,15 +14,15 @@ use lib.ListN.{length, getD}
 use Rattle.lists.proofs.Bools.{Is, is, yes-is, no-is, and-both, and-intro, and-right-false}
 use Rattle.lists.proofs.Elements.{all-at, all-intro}
 use Rattle.lists.proofs.Judged.{Judged}
-use Rattle.rules.specs.Table.{Table, tableOf, refusal, size, rowOf, step}
-use Rattle.rules.specs.Graph.{orNone}
-use Rattle.rules.specs.Build.{chain, leafOf, present}
-use Rattle.rules.specs.Clean.{zeroDead, bytesLeaf, endless}
-use Rattle.rules.proofs.Agreed.{agreed-all, agreed-none}
-use Rattle.rules.proofs.Cleanness.{byteLeaves, byte-leaves, byte-leaf}
-use Rattle.rules.proofs.Flat.{step-word, head-word}
-use Rattle.rules.proofs.Nones.{or-none, or-same}
-use Rattle.rules.proofs.Shape.{legal-shaped, legal-width, size-is}
+use Rattle.graph_rules.specs.Table.{Table, tableOf, refusal, size, rowOf, step}
+use Rattle.graph_rules.specs.Graph.{orNone}
+use Rattle.graph_rules.specs.Build.{chain, leafOf, present}
+use Rattle.graph_rules.specs.Clean.{zeroDead, bytesLeaf, endless}
+use Rattle.graph_rules.proofs.Agreed.{agreed-all, agreed-none}
+use Rattle.graph_rules.proofs.Cleanness.{byteLeaves, byte-leaves, byte-leaf}
+use Rattle.graph_rules.proofs.Flat.{step-word, head-word}
+use Rattle.graph_rules.proofs.Nones.{or-none, or-same}
+use Rattle.graph_rules.proofs.Shape.{legal-shaped, legal-width, size-is}
 use Rattle.words.specs.Places.{rowPlace}
 use Rattle.legal.proofs.Legal.{legal-means}
 use Rattle.clean.specs.Held.{LeavesOf}

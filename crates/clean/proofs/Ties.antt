@@ -12,9 +12,9 @@ use lib.Dec.{eqb, leb}
 use lib.ListN.{length}
 use Rattle.lists.specs.Lists.{anyL, those}
 use Rattle.lists.proofs.Bools.{Is, is, yes-is, no-is, none-some, or-left, or-right, lt-or-le}
-use Rattle.rules.specs.Table.{Table, rowOf, leafAt, matchOf}
-use Rattle.rules.specs.Build.{chainFrom, chain, highest, contenders, single, leafOf}
-use Rattle.rules.specs.Clean.{tied}
+use Rattle.graph_rules.specs.Table.{Table, rowOf, leafAt, matchOf}
+use Rattle.graph_rules.specs.Build.{chainFrom, chain, highest, contenders, single, leafOf}
+use Rattle.graph_rules.specs.Clean.{tied}
 
 -- ---- the highest of a list's values is that of one of its elements
 

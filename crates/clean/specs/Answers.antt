@@ -1,12 +1,12 @@
--- What the call `clean` answers, by the definitions of `rules`. Definitions only.
+-- What the call `clean` answers, by the definitions of `graph_rules`. Definitions only.
 use mathlib.Core.Bool.{true, false}
 use mathlib.Core.List.{List, [], _∷_}
 use mathlib.Core.Option.{Option, none, some}
 use Prim.Native.Nat.{ℕ}
 use lib.Dec.{eqb}
-use Rattle.lists.specs.Told.{Told, telling, refusing}
-use Rattle.rules.specs.Table.{tableOf, refusal}
-use Rattle.rules.specs.Clean.{Breach, breach}
+use Rattle.lists.specs.Report.{Report, reporting, refusing}
+use Rattle.graph_rules.specs.Table.{tableOf, refusal}
+use Rattle.graph_rules.specs.Clean.{Breach, breach}
 use Rattle.clean.specs.declared.Verdict.{Verdict}
 use Rattle.clean.specs.declared.Verdict.the-variants.{Clean, Breaks, Refused}
 
@@ -23,7 +23,7 @@ abbrev pub breachValues : Option Breach → List ℕ
 breachValues none = 0 ∷ 0 ∷ []
 breachValues (some b) = b .rule ∷ b .state ∷ []
 
-abbrev pub cleanTold : Verdict → Told
-cleanTold Clean = telling (0 ∷ 0 ∷ [])
-cleanTold (Breaks rule state) = telling (rule ∷ state ∷ [])
-cleanTold (Refused n) = refusing n 2
+abbrev pub cleanReport : Verdict → Report
+cleanReport Clean = reporting (0 ∷ 0 ∷ [])
+cleanReport (Breaks rule state) = reporting (rule ∷ state ∷ [])
+cleanReport (Refused n) = refusing n 2

@@ -6,10 +6,10 @@ use mathlib.Core.Option.{Option}
 use Prim.Native.Nat.{ℕ, _<_}
 use lib.ListN.{getD}
 use Rattle.lists.specs.Lists.{below, those, select}
-use Rattle.rules.specs.Table.{tableOf}
-use Rattle.rules.specs.Graph.{orNone}
-use Rattle.rules.specs.Build.{leafOf}
-use Rattle.rules.specs.Clean.{first}
+use Rattle.graph_rules.specs.Table.{tableOf}
+use Rattle.graph_rules.specs.Graph.{orNone}
+use Rattle.graph_rules.specs.Build.{leafOf}
+use Rattle.graph_rules.specs.Clean.{first}
 
 -- each state's leaf, 255 for none
 abbrev pub LeavesOf : List ℕ → List ℕ → Type 0

@@ -1,15 +1,15 @@
 // Whether a table is clean (document 01, "Clean means"), and which rule it breaks first, at which state. What the call answers is defined in
-// specs/Answers.antt, over rules/specs/Clean.antt. Each state's leaf is worked out once, so that the time is in proportion to the table's words and
+// specs/Answers.antt, over graph_rules/specs/Clean.antt. Each state's leaf is worked out once, so that the time is in proportion to the table's words and
 // to its states' chains.
 ghost use mathlib.Core.Path.{_≡_};
 ghost use mathlib.Core.List.{[]};
 ghost use mathlib.Core.Option.{some};
 ghost use Prim.Native.Nat.{_<_};
 ghost use lib.ListN.{getD};
-ghost use Rattle.rules.specs.Table.{tableOf, refusal};
-ghost use Rattle.rules.specs.Graph.{orNone};
-ghost use Rattle.rules.specs.Build.{emptyLeaves};
-ghost use Rattle.rules.specs.Clean.{breach, tied, zeroDead, bytesLeaf, endless};
+ghost use Rattle.graph_rules.specs.Table.{tableOf, refusal};
+ghost use Rattle.graph_rules.specs.Graph.{orNone};
+ghost use Rattle.graph_rules.specs.Build.{emptyLeaves};
+ghost use Rattle.graph_rules.specs.Clean.{breach, tied, zeroDead, bytesLeaf, endless};
 ghost use Rattle.clean.specs.Answers.{verdict, cleanOf};
 ghost use Rattle.clean.specs.Held.{LeavesOf, lowest};
 use words::table::leaves;

@@ -14,9 +14,9 @@ use Rattle.lists.proofs.Bools.{Is, is, yes-is, no-is, or-left, or-right, some-i
 use Rattle.lists.proofs.Elements.{all-intro, all-false, getD-tab0, length-tab, map-at}
 use Rattle.lists.proofs.Padding.{padded, padding-at}
 use Rattle.lists.proofs.Worklist.{in-keeps, in-cases, none-in}
-use Rattle.rules.specs.Graph.{State, Graph, blank, stateOf, to, acceptOf, earlyOf, leads}
-use Rattle.rules.specs.Build.{covered}
-use Rattle.rules.proofs.Views.{edge-leads, edge-within, leads-edge}
+use Rattle.graph_rules.specs.Graph.{State, Graph, blank, stateOf, to, acceptOf, earlyOf, leads}
+use Rattle.graph_rules.specs.Build.{covered}
+use Rattle.graph_rules.proofs.Views.{edge-leads, edge-within, leads-edge}
 use Rattle.words.proofs.Edges.{Pass, pass-none, pass-more, pass-skip, pass-row}
 
 -- ---- covered

@@ -10,8 +10,8 @@ ghost use mathlib.Core.List.{_++_, map};
 ghost use Prim.Native.Nat.{_+_, _*_, _-_};
 ghost use lib.ListN.{getD, drop, replicate};
 ghost use Rattle.lists.specs.Lists.{below};
-ghost use Rattle.rules.specs.Graph.{graphFits, graphFrom, graphBuffer};
-ghost use Rattle.rules.specs.Build.{covered, withCleared};
+ghost use Rattle.graph_rules.specs.Graph.{graphFits, graphFrom, graphBuffer};
+ghost use Rattle.graph_rules.specs.Build.{covered, withCleared};
 
 // Which states have a parent, by a byte or the end, whose early leaf is not the one they accept.
 pub fn uncovered(graph: &[u16]) -> [bool; 1024]

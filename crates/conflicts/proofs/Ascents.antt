@@ -14,8 +14,8 @@ use Rattle.lists.proofs.Bools.{Is, is, yes-is, no-is, and-intro}
 use Rattle.lists.proofs.Elements.{eqb-sound}
 use Rattle.lists.proofs.Distinct.{those-keep}
 use Rattle.lists.proofs.Rising.{Rising, rising-nil, rising-cons, rising-those, rising-few}
-use Rattle.rules.specs.Table.{Table, tableOf, rowOf, matchOf, refusal}
-use Rattle.rules.specs.Build.{chain, contenders}
+use Rattle.graph_rules.specs.Table.{Table, tableOf, rowOf, matchOf, refusal}
+use Rattle.graph_rules.specs.Build.{chain, contenders}
 use Rattle.leaves.specs.Chains.{records, priorityAt, tieFrom, topOf}
 use Rattle.leaves.proofs.Records.{sizes, head-below, leaf-below, next-below, leaf-rises}
 use Rattle.leaves.proofs.Contenders.{leafOfRecord, priorityOf, chain-from, those-leaf, records-end, records-step, contenders-top, top-low}

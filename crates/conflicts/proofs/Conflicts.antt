@@ -12,9 +12,9 @@ use Rattle.lists.proofs.Bools.{Is, is, yes-is, no-is, and-both, and-intro, and-
 use Rattle.lists.proofs.Elements.{length-tab}
 use Rattle.lists.proofs.Selections.{select-in, select-out, select-none, select-take}
 use Rattle.lists.proofs.Sorted.{total, sorted-total, sorted-length}
-use Rattle.rules.specs.Table.{Table, tableOf, refusal}
-use Rattle.rules.specs.Build.{contenders, Error, disambiguation, errorWords, ties}
-use Rattle.rules.proofs.Shape.{size-is}
+use Rattle.graph_rules.specs.Table.{Table, tableOf, refusal}
+use Rattle.graph_rules.specs.Build.{contenders, Error, disambiguation, errorWords, ties}
+use Rattle.graph_rules.proofs.Shape.{size-is}
 use Rattle.leaves.specs.Chains.{topOf, nextTied, tieFrom}
 use Rattle.conflicts.specs.Slots.{tiedAt}
 use Rattle.leaves.proofs.Contenders.{contenders-top, tie-end, tie-step, next-tied-low, top-low}

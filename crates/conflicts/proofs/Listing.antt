@@ -11,8 +11,8 @@ use lib.Seq.{sets, length-take-le, drop-cons, getD-take}
 use Rattle.lists.specs.Lists.{tab, those}
 use Rattle.lists.proofs.Buffers.{sets-front}
 use Rattle.lists.proofs.Runs.{Underway}
-use Rattle.rules.specs.Table.{Table, tableOf, leafAt, refusal}
-use Rattle.rules.specs.Build.{Error, emptyMatch, disambiguation, errorWords, emptyLeaves}
+use Rattle.graph_rules.specs.Table.{Table, tableOf, leafAt, refusal}
+use Rattle.graph_rules.specs.Build.{Error, emptyMatch, disambiguation, errorWords, emptyLeaves}
 use Rattle.leaves.specs.Chains.{tieFrom}
 use Rattle.conflicts.specs.Listed.{listed}
 use Rattle.legal.proofs.Counts.{leaves-length}

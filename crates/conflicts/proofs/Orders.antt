@@ -10,8 +10,8 @@ use lib.Seq.{length-take-le, getD-take}
 use Rattle.lists.specs.Lists.{before, insert, sorted}
 use Rattle.lists.proofs.Elements.{map-at}
 use Rattle.lists.proofs.Sorted.{Ordered, sorted-ordered, ordered-at}
-use Rattle.rules.specs.Table.{tableOf, refusal}
-use Rattle.rules.specs.Build.{disambiguation, ties}
+use Rattle.graph_rules.specs.Table.{tableOf, refusal}
+use Rattle.graph_rules.specs.Build.{disambiguation, ties}
 use Rattle.leaves.specs.Chains.{tieFrom}
 use Rattle.conflicts.specs.Slots.{slot, putIn, Held, InOrder}
 use Rattle.conflicts.proofs.Conflicts.{tiesOn, ties-end, ties-sorted}

@@ -11,7 +11,7 @@ use Rattle.lists.specs.Lists.{before, insert}
 use Rattle.lists.proofs.Bools.{Is, is, yes-is, no-is, Order, order, less, equal, more}
 use Rattle.lists.proofs.Elements.{map-at}
 use Rattle.lists.proofs.Sorted.{before-less, before-equal, before-more, before-not}
-use Rattle.rules.specs.Table.{tableOf, matchOf, refusal}
+use Rattle.graph_rules.specs.Table.{tableOf, matchOf, refusal}
 use Rattle.leaves.specs.Chains.{nextTied, tieFrom}
 use Rattle.conflicts.specs.Slots.{slot, putIn, Held}
 use Rattle.leaves.proofs.Contenders.{tie-end, tie-step}

@@ -4,8 +4,8 @@ use mathlib.Core.Bool.{Bool}
 use mathlib.Core.List.{List, _++_, flatMap}
 use Prim.Native.Nat.{ℕ}
 use lib.ListN.{length, getD, take, drop}
-use Rattle.rules.specs.Table.{tableOf}
-use Rattle.rules.specs.Build.{Error, errorWords, ties}
+use Rattle.graph_rules.specs.Table.{tableOf}
+use Rattle.graph_rules.specs.Build.{Error, errorWords, ties}
 
 -- rule 3's errors for a set of the n states of a table's words; flags from n on mean nothing
 abbrev pub tiesIn : List ℕ → List Bool → List Error

@@ -6,8 +6,8 @@ use Prim.Native.Nat.{ℕ, suc, _-_, _≤_, _<_}
 use lib.Dec.{leb}
 use lib.ListN.{length, getD, take, drop}
 use Rattle.lists.specs.Lists.{before}
-use Rattle.rules.specs.Table.{Table}
-use Rattle.rules.specs.Build.{contenders}
+use Rattle.graph_rules.specs.Table.{Table}
+use Rattle.graph_rules.specs.Build.{contenders}
 use Rattle.leaves.specs.Chains.{topOf, tieFrom}
 
 -- the record where the tie of state s of a set begins; 0: it has none, or is not in the set

@@ -5,7 +5,7 @@ use mathlib.Core.List.{List, _++_}
 use Prim.Native.Nat.{ℕ, _≤_, _<_}
 use borrow.Author.Tests.{le-leb, lt-leb}
 use lib.ListN.{length, drop}
-use Rattle.rules.specs.Graph.{graphFrom, graphFits}
+use Rattle.graph_rules.specs.Graph.{graphFrom, graphFits}
 use Rattle.display.specs.Text.{Wrote}
 use Rattle.display.specs.Display.{displayed, lineOf}
 use Rattle.display.specs.Answers.{Call, refused, written, displayCall, errorFits, lineCall}

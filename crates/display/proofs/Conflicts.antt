@@ -10,7 +10,7 @@ use lib.Dec.{leb}
 use lib.ListN.{length, getD, take, drop, length-append, length-drop, length-take, List·getD-eq-default}
 use lib.Seq.{length-take-le, getD-take, getD-drop, take-at, take-length}
 use Rattle.lists.proofs.Bools.{and-both, lt-or-le}
-use Rattle.rules.specs.Build.{Error, noUniversalStart, emptyMatch, disambiguation, errorWords}
+use Rattle.graph_rules.specs.Build.{Error, noUniversalStart, emptyMatch, disambiguation, errorWords}
 use Rattle.display.specs.Text.{bytes, decimal, after}
 use Rattle.display.specs.Display.{lineOf, conflictLine}
 use Rattle.display.specs.Answers.{errorFits}

@@ -12,4 +12,4 @@ pub mod Members
 pub mod Calls
 pub mod Conflicts
 pub mod Rooms
-pub mod Told
+pub mod Report

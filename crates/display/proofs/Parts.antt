@@ -6,9 +6,9 @@ use mathlib.Core.Option.{Option, none}
 use Prim.Native.Nat.{ℕ, _+_, _*_, _/_, _%_, _<_}
 use native.Mathlib.Omega.{arith}
 use lib.ListN.{getD}
-use Rattle.rules.specs.Graph.{State, stateOf, to, acceptOf, earlyOf, orNone, graphFrom, graphFits}
-use Rattle.rules.proofs.Flat.{from-to, from-accept, from-early}
-use Rattle.rules.proofs.Taken.{taken-long}
+use Rattle.graph_rules.specs.Graph.{State, stateOf, to, acceptOf, earlyOf, orNone, graphFrom, graphFits}
+use Rattle.graph_rules.proofs.Flat.{from-to, from-accept, from-early}
+use Rattle.graph_rules.proofs.Taken.{taken-long}
 use Rattle.display.specs.Text.{bytes, after}
 use Rattle.display.specs.Display.{firstLine, edgeLines, endLines, stateText}
 use Rattle.display.proofs.Joins.{after-append}

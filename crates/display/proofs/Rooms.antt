@@ -6,7 +6,7 @@ use Prim.Native.Nat.{ℕ, _+_, _*_, _≤_, _<_}
 use native.Mathlib.Omega.{arith}
 use borrow.Author.Tests.{le-leb}
 use lib.ListN.{length, getD}
-use Rattle.rules.specs.Graph.{graphFrom, graphFits}
+use Rattle.graph_rules.specs.Graph.{graphFrom, graphFits}
 use Rattle.display.specs.Display.{displayed, lineOf}
 use Rattle.display.specs.Answers.{Call, written, displayCall, errorFits, lineCall}
 use Rattle.display.specs.declared.Shown.the-variants.{Bytes}

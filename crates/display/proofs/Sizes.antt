@@ -12,8 +12,8 @@ use lib.ListN.{length, getD, length-append, length-take}
 use Rattle.lists.specs.Lists.{tab, below, those}
 use Rattle.lists.proofs.Bools.{Is, is, yes-is, no-is}
 use Rattle.classes.specs.Classes.{Class}
-use Rattle.rules.specs.Graph.{State, stateOf, orNone, graphFrom, graphFits}
-use Rattle.rules.proofs.Taken.{taken-few, taken-target}
+use Rattle.graph_rules.specs.Graph.{State, stateOf, orNone, graphFrom, graphFits}
+use Rattle.graph_rules.proofs.Taken.{taken-few, taken-target}
 use Rattle.display.specs.Text.{bytes, decimal, after}
 use Rattle.display.specs.Display.{classText, markText, firstLine, edgeLine, edgeLines, endLines, stateText, displayed}
 use Rattle.edges.specs.Edges.{bytesOf, classTo, leadsTo, targets}

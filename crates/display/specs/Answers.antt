@@ -4,16 +4,16 @@ use mathlib.Core.List.{List, [], _∷_, _++_}
 use Prim.Native.Nat.{ℕ, _+_}
 use lib.Dec.{leb}
 use lib.ListN.{length, getD, drop}
-use Rattle.lists.specs.Told.{Told, telling, refusing}
-use Rattle.rules.specs.Graph.{graphFrom, graphFits}
+use Rattle.lists.specs.Report.{Report, reporting, refusing}
+use Rattle.graph_rules.specs.Graph.{graphFrom, graphFits}
 use Rattle.display.specs.Display.{displayed, lineOf}
 use Rattle.display.specs.declared.Shown.{Shown}
 use Rattle.display.specs.declared.Shown.the-variants.{Bytes, Refused}
 
 -- an answer in numbers: how many bytes were written; or a refusal
-abbrev pub shownTold : Shown → Told
-shownTold (Bytes n) = telling (n ∷ [])
-shownTold (Refused n) = refusing n 1
+abbrev pub shownReport : Shown → Report
+shownReport (Bytes n) = reporting (n ∷ [])
+shownReport (Refused n) = refusing n 1
 
 pub record Call : Type 0 where
   pub answer : Shown

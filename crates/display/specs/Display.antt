@@ -8,8 +8,8 @@ use Prim.Native.Char.{code}
 use lib.Dec.{eqb, leb, ltb}
 use lib.ListN.{length, getD, take, drop}
 use Rattle.lists.specs.Lists.{below}
-use Rattle.rules.specs.Graph.{State, Graph, stateOf}
-use Rattle.rules.specs.Build.{Error, errorWords}
+use Rattle.graph_rules.specs.Graph.{State, Graph, stateOf}
+use Rattle.graph_rules.specs.Build.{Error, errorWords}
 use Rattle.classes.specs.Classes.{Class, ranges}
 use Rattle.edges.specs.Edges.{classTo, targets}
 use Rattle.display.specs.Text.{bytes, one, decimal, joined}

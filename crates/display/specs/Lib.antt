@@ -1,4 +1,4 @@
 pub mod Text
 pub mod Display
 pub mod Answers
-pub mod Told
+pub mod Report

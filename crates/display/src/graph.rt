@@ -4,7 +4,7 @@ ghost use mathlib.Core.Bool.{true};
 ghost use mathlib.Core.List.{_++_};
 ghost use Prim.Native.Nat.{_<_};
 ghost use lib.ListN.{length, getD};
-ghost use Rattle.rules.specs.Graph.{stateOf, graphFrom, graphFits};
+ghost use Rattle.graph_rules.specs.Graph.{stateOf, graphFrom, graphFits};
 ghost use Rattle.display.specs.Text.{bytes, Wrote, Counts};
 ghost use Rattle.display.specs.Display.{stateText, displayed};
 use crate::put;

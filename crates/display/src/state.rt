@@ -4,7 +4,7 @@ ghost use mathlib.Core.Bool.{true};
 ghost use mathlib.Core.List.{_++_};
 ghost use Prim.Native.Nat.{_/_, _%_, _<_};
 ghost use lib.ListN.{getD};
-ghost use Rattle.rules.specs.Graph.{stateOf, orNone, graphFrom, graphFits};
+ghost use Rattle.graph_rules.specs.Graph.{stateOf, orNone, graphFrom, graphFits};
 ghost use Rattle.display.specs.Text.{after, bytes, Wrote, Counts};
 ghost use Rattle.display.specs.Display.{markText, firstLine, edgeLine, edgeLines, endLines, stateText};
 use crate::byte_class;

@@ -9,14 +9,14 @@ use native.Mathlib.Omega.{arith}
 use lib.ListN.{length, getD, take, drop, length-map, take-append-drop, drop-of-length-le, List·getD-map}
 use lib.Seq.{drop-cons, length-take-le, getD-take, ext-getD}
 use Rattle.lists.proofs.Bools.{none-some, lt-or-le}
-use Rattle.rules.specs.Graph.{State, Graph, stateOf, to, acceptOf, earlyOf, orNone, graphFrom, graphFits}
-use Rattle.rules.specs.Build.{children, acceptBy, agreed, withEarly}
-use Rattle.rules.proofs.Flat.{from-to, from-accept, from-length, from-width}
-use Rattle.rules.proofs.Agreed.{agreed-all, agreed-none}
-use Rattle.rules.proofs.Marks.{early-early}
-use Rattle.rules.proofs.Taken.{taken-long}
-use Rattle.rules.proofs.Views.{out-accept}
-use Rattle.rules.proofs.Nones.{word-inj}
+use Rattle.graph_rules.specs.Graph.{State, Graph, stateOf, to, acceptOf, earlyOf, orNone, graphFrom, graphFits}
+use Rattle.graph_rules.specs.Build.{children, acceptBy, agreed, withEarly}
+use Rattle.graph_rules.proofs.Flat.{from-to, from-accept, from-length, from-width}
+use Rattle.graph_rules.proofs.Agreed.{agreed-all, agreed-none}
+use Rattle.graph_rules.proofs.Marks.{early-early}
+use Rattle.graph_rules.proofs.Taken.{taken-long}
+use Rattle.graph_rules.proofs.Views.{out-accept}
+use Rattle.graph_rules.proofs.Nones.{word-inj}
 use Rattle.words.proofs.GraphWords.{accept-leaf}
 
 -- ---- the children of a row of 257

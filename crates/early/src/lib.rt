@@ -9,8 +9,8 @@ ghost use mathlib.Core.List.{_++_};
 ghost use mathlib.Core.Option.{Option·getD};
 ghost use Prim.Native.Nat.{_+_, _*_, _<_, _≤_};
 ghost use lib.ListN.{getD, drop};
-ghost use Rattle.rules.specs.Graph.{graphFits, graphFrom, graphBuffer, to, earlyOf};
-ghost use Rattle.rules.specs.Build.{acceptBy, withEarly};
+ghost use Rattle.graph_rules.specs.Graph.{graphFits, graphFrom, graphBuffer, to, earlyOf};
+ghost use Rattle.graph_rules.specs.Build.{acceptBy, withEarly};
 
 // The leaf of the state that edge c of state s leads to; 255 if there is no edge, or no leaf.
 pub fn accept_by(graph: &[u16], s: usize, c: usize) -> usize

@@ -14,7 +14,7 @@ use Rattle.lists.proofs.Elements.{getD-tab0}
 use Rattle.lists.proofs.Rising.{Rising, rising-those, rising-below}
 use Rattle.lists.proofs.Those.{any-those}
 use Rattle.classes.specs.Classes.{has}
-use Rattle.rules.specs.Graph.{State}
+use Rattle.graph_rules.specs.Graph.{State}
 use Rattle.edges.specs.Edges.{bytesOf, classTo, leadsTo, targets}
 
 module _ (st : State) where

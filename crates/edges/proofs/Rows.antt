@@ -16,10 +16,10 @@ use Rattle.lists.specs.Lists.{tab, anyL, eqOption}
 use Rattle.lists.proofs.Bools.{Is, is, yes-is, no-is, or-right, or-false}
 use Rattle.lists.proofs.Any.{any-found, any-snoc}
 use Rattle.lists.proofs.Elements.{length-tab, getD-tab0, map-at, option-sound}
-use Rattle.rules.specs.Graph.{State, stateOf, to, orNone, graphFrom, graphFits}
-use Rattle.rules.proofs.Flat.{from-width, from-to}
-use Rattle.rules.proofs.Nones.{or-meets, or-some}
-use Rattle.rules.proofs.Taken.{taken-long, taken-target}
+use Rattle.graph_rules.specs.Graph.{State, stateOf, to, orNone, graphFrom, graphFits}
+use Rattle.graph_rules.proofs.Flat.{from-width, from-to}
+use Rattle.graph_rules.proofs.Nones.{or-meets, or-some}
+use Rattle.graph_rules.proofs.Taken.{taken-long, taken-target}
 use Rattle.edges.specs.Edges.{bytesOf, classTo, leadsTo}
 
 -- ---- what the loops keep

@@ -6,7 +6,7 @@ use Prim.Native.Nat.{ℕ}
 use lib.ListN.{take}
 use Rattle.lists.specs.Lists.{below, anyL, those, eqOption}
 use Rattle.classes.specs.Classes.{Class}
-use Rattle.rules.specs.Graph.{State}
+use Rattle.graph_rules.specs.Graph.{State}
 
 abbrev pub bytesOf : State → List (Option ℕ)
 bytesOf st = take 256 (st .steps)

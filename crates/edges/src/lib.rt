@@ -7,7 +7,7 @@ ghost use mathlib.Core.Bool.{true};
 ghost use Prim.Native.Nat.{_<_};
 ghost use lib.ListN.{getD};
 ghost use Rattle.lists.specs.Lists.{tab};
-ghost use Rattle.rules.specs.Graph.{stateOf, graphFrom, graphFits};
+ghost use Rattle.graph_rules.specs.Graph.{stateOf, graphFrom, graphFits};
 ghost use Rattle.edges.specs.Edges.{classTo, leadsTo};
 
 // The class of the edge from state s to state u.

@@ -4,13 +4,13 @@ use mathlib.Core.Path.{_≡_, sym, ap, subst, _∙_}
 use mathlib.Core.List.{List, []}
 use Prim.Native.Nat.{ℕ, _<_}
 use lib.ListN.{length}
-use Rattle.rules.specs.Table.{tableOf}
-use Rattle.rules.specs.Graph.{Graph, FromRoot, graphFrom}
-use Rattle.rules.specs.Build.{build, emptyLeaves}
-use Rattle.rules.specs.Read.{Orderly, Clean}
-use Rattle.rules.proofs.Promises.{built-back, clean-no-empty, tied-reached as build-reached}
+use Rattle.graph_rules.specs.Table.{tableOf}
+use Rattle.graph_rules.specs.Graph.{Graph, FromRoot, graphFrom}
+use Rattle.graph_rules.specs.Build.{build, emptyLeaves}
+use Rattle.graph_rules.specs.Read.{Orderly, Clean}
+use Rattle.graph_rules.proofs.Promises.{built-back, clean-no-empty, tied-reached as build-reached}
 use Rattle.graph.specs.declared.new.Counts.{Counts}
-use Rattle.graph.specs.declared.new.Answer.the-variants.{Built as Made}
+use Rattle.graph.specs.declared.new.BuildAnswer.the-variants.{Built as Made}
 use Rattle.graph.specs.New.{newOf}
 use Rattle.graph.proofs.Outcomes.{answered, words-first}
 

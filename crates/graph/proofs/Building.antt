@@ -9,12 +9,12 @@ use borrow.Author.Tests.{eq-eqb, ne-eqb, lt-ltb, le-ltb}
 use lib.ListN.{length, getD, take, drop, replicate}
 use lib.Seq.{take-at}
 use Rattle.lists.proofs.Closure.{closure-length}
-use Rattle.rules.specs.Table.{Table, tableOf, refusal, size}
-use Rattle.rules.specs.Graph.{Graph, graphWords, graphBuffer}
-use Rattle.rules.specs.Build.{Built, noUniversalStart, emptyMatch, errorWords, emptyLeaves, noStates, reached, ties, buildFrom, build}
-use Rattle.rules.proofs.Shape.{size-is}
+use Rattle.graph_rules.specs.Table.{Table, tableOf, refusal, size}
+use Rattle.graph_rules.specs.Graph.{Graph, graphWords, graphBuffer}
+use Rattle.graph_rules.specs.Build.{Built, noUniversalStart, emptyMatch, errorWords, emptyLeaves, noStates, reached, ties, buildFrom, build}
+use Rattle.graph_rules.proofs.Shape.{size-is}
 use Rattle.conflicts.specs.Listed.{listed}
-use Rattle.graph.specs.declared.new.Answer.the-variants.{Built as Made}
+use Rattle.graph.specs.declared.new.BuildAnswer.the-variants.{Built as Made}
 use Rattle.graph.specs.New.{refusedBy, conflicts, wroteOr9, writtenOr, newOf}
 use Rattle.graph.proofs.Written.{short, enough}
 

@@ -5,12 +5,12 @@ use mathlib.Core.Option.{some}
 use Prim.Native.Nat.{ℕ, _+_, _*_, _≤_, _<_}
 use native.Mathlib.Omega.{arith}
 use lib.ListN.{length, getD, drop}
-use Rattle.rules.specs.Table.{tableOf, refusal}
-use Rattle.rules.specs.Graph.{Graph, graphBuffer, graphFrom}
-use Rattle.rules.specs.Build.{reached, restrict, wholeGraph, withEarly, withCleared, unpruned, pruned, merged}
-use Rattle.rules.proofs.Fits.{Fits, first-fits, early-fits, cleared-fits, pruned-fits, pruned-few, merged-fits, merged-few}
-use Rattle.rules.proofs.Marks.{early-length, cleared-length}
-use Rattle.rules.proofs.Shape.{few-states, few-leaves}
+use Rattle.graph_rules.specs.Table.{tableOf, refusal}
+use Rattle.graph_rules.specs.Graph.{Graph, graphBuffer, graphFrom}
+use Rattle.graph_rules.specs.Build.{reached, restrict, wholeGraph, withEarly, withCleared, unpruned, pruned, merged}
+use Rattle.graph_rules.proofs.Fits.{Fits, first-fits, early-fits, cleared-fits, pruned-fits, pruned-few, merged-fits, merged-few}
+use Rattle.graph_rules.proofs.Marks.{early-length, cleared-length}
+use Rattle.graph_rules.proofs.Shape.{few-states, few-leaves}
 use Rattle.rows.specs.Renumbering.{firstGraph}
 use Rattle.graph.proofs.Stages.{Stage, stage-next}
 

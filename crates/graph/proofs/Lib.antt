@@ -8,4 +8,4 @@ pub mod Written
 pub mod Composed
 pub mod Building
 pub mod Images
-pub mod Told
+pub mod Report

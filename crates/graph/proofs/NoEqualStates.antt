@@ -5,12 +5,12 @@ use mathlib.Core.List.{List, [], _∷_, _++_, map}
 use Prim.Native.Nat.{ℕ, zero, suc, _+_, _*_, _≤_, _<_}
 use native.Mathlib.Omega.{arith}
 use lib.ListN.{length, getD}
-use Rattle.rules.specs.Table.{tableOf}
-use Rattle.rules.specs.Graph.{Graph, stateOf, graphFrom}
-use Rattle.rules.specs.Build.{build}
-use Rattle.rules.proofs.Promises.{no-equal-states}
+use Rattle.graph_rules.specs.Table.{tableOf}
+use Rattle.graph_rules.specs.Graph.{Graph, stateOf, graphFrom}
+use Rattle.graph_rules.specs.Build.{build}
+use Rattle.graph_rules.proofs.Promises.{no-equal-states}
 use Rattle.graph.specs.declared.new.Counts.{Counts}
-use Rattle.graph.specs.declared.new.Answer.the-variants.{Built as Made}
+use Rattle.graph.specs.declared.new.BuildAnswer.the-variants.{Built as Made}
 use Rattle.graph.specs.New.{conflicts, newOf}
 use Rattle.graph.proofs.Outcomes.{answered}
 use Rattle.graph.proofs.AllReached.{returned-back}

@@ -5,16 +5,16 @@ use mathlib.Core.Bool.{true}
 use mathlib.Core.List.{List, [], _++_}
 use Prim.Native.Nat.{ℕ}
 use lib.ListN.{length}
-use Rattle.lists.specs.Told.{Told}
-use Rattle.rules.specs.Table.{tableOf, refusal}
-use Rattle.rules.specs.Graph.{graphFrom, graphFits}
-use Rattle.rules.specs.Build.{emptyLeaves}
-use Rattle.rules.specs.Read.{Bytes, Orderly, Clean, Reading}
-use Rattle.rules.proofs.Promises.{built-taken, clean-no-empty, words-alike}
+use Rattle.lists.specs.Report.{Report}
+use Rattle.graph_rules.specs.Table.{tableOf, refusal}
+use Rattle.graph_rules.specs.Graph.{graphFrom, graphFits}
+use Rattle.graph_rules.specs.Build.{emptyLeaves}
+use Rattle.graph_rules.specs.Read.{Bytes, Orderly, Clean, Reading}
+use Rattle.graph_rules.proofs.Promises.{built-taken, clean-no-empty, words-alike}
 use Rattle.readings.specs.declared.read.Read.{Read}
 use Rattle.graph.specs.declared.new.Counts.{Counts}
-use Rattle.graph.specs.declared.new.Answer.the-variants.{Built as Made}
-use Rattle.readings.specs.Answers.{reading, readTold, tableRead, graphRead}
+use Rattle.graph.specs.declared.new.BuildAnswer.the-variants.{Built as Made}
+use Rattle.readings.specs.Answers.{reading, readReport, tableRead, graphRead}
 use Rattle.graph.specs.New.{newOf}
 use Rattle.readings.proofs.Answering.{graph-answered, table-answered}
 use Rattle.graph.proofs.Outcomes.{answered, words-first}
@@ -40,5 +40,5 @@ module _ (table graph errors : List ℕ) (c : Counts) (made : newOf table graph 
 
   -- and so in document 01's numbers
   pub told-alike : Clean (tableOf table) → (text : List ℕ) → Bytes text
-      → readTold (tableRead table text) ≡ readTold (graphRead (newOf table graph errors .graph) text)
-  told-alike clean text bytes = ap readTold (readings-alike clean text bytes)
+      → readReport (tableRead table text) ≡ readReport (graphRead (newOf table graph errors .graph) text)
+  told-alike clean text bytes = ap readReport (readings-alike clean text bytes)

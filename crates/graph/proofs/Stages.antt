@@ -6,9 +6,9 @@ use mathlib.Core.List.{List, _++_, append-assoc}
 use Prim.Native.Nat.{ℕ, _+_, _-_, _*_, _≤_}
 use native.Mathlib.Omega.{arith}
 use lib.ListN.{length, getD, drop, replicate}
-use Rattle.rules.specs.Graph.{Graph, graphWords, graphBuffer, graphFrom, graphFits}
-use Rattle.rules.proofs.Fits.{Fits}
-use Rattle.rules.proofs.Words.{graph-back, words-taken}
+use Rattle.graph_rules.specs.Graph.{Graph, graphWords, graphBuffer, graphFrom, graphFits}
+use Rattle.graph_rules.proofs.Fits.{Fits}
+use Rattle.graph_rules.proofs.Words.{graph-back, words-taken}
 use Rattle.words.proofs.Buffers.{written-over}
 
 -- words w hold graph g, of a table of n states; `found` is what was lent

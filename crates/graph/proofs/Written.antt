@@ -13,13 +13,13 @@ use Rattle.lists.proofs.Bools.{Is, is, yes-is, no-is}
 use Rattle.lists.proofs.Buffers.{sets-front}
 use Rattle.lists.proofs.Elements.{length-tab}
 use Rattle.lists.proofs.Pieces.{pieces-length}
-use Rattle.rules.specs.Table.{tableOf, refusal, leafAt}
-use Rattle.rules.specs.Graph.{graphWords, graphBuffer}
-use Rattle.rules.specs.Build.{Error, Built, emptyMatch, errorWords, emptyLeaves, noStates}
-use Rattle.rules.proofs.Shape.{few-leaves}
+use Rattle.graph_rules.specs.Table.{tableOf, refusal, leafAt}
+use Rattle.graph_rules.specs.Graph.{graphWords, graphBuffer}
+use Rattle.graph_rules.specs.Build.{Error, Built, emptyMatch, errorWords, emptyLeaves, noStates}
+use Rattle.graph_rules.proofs.Shape.{few-leaves}
 use Rattle.conflicts.specs.Listed.{listed}
 use Rattle.graph.specs.declared.new.Counts.{Counts}
-use Rattle.graph.specs.declared.new.Answer.the-variants.{Built as Made, Refused}
+use Rattle.graph.specs.declared.new.BuildAnswer.the-variants.{Built as Made, Refused}
 use Rattle.graph.specs.New.{Outcome, refusedBy, conflicts, countsOf, wrote, wroteOr9}
 
 module _ (n : ℕ) (b : Built) (graph errors : List ℕ) where

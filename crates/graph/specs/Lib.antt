@@ -1,2 +1,2 @@
 pub mod New
-pub mod Told
+pub mod Report

@@ -4,22 +4,22 @@ use mathlib.Core.List.{List, [], _∷_, _++_, flatMap}
 use Prim.Native.Nat.{ℕ, _+_, _*_, _%_}
 use lib.Dec.{eqb, ltb}
 use lib.ListN.{length, getD, drop}
-use Rattle.lists.specs.Told.{Told, telling, refusing}
-use Rattle.rules.specs.Table.{tableOf, refusal}
-use Rattle.rules.specs.Graph.{graphBuffer}
-use Rattle.rules.specs.Build.{Built, errorWords, build}
+use Rattle.lists.specs.Report.{Report, reporting, refusing}
+use Rattle.graph_rules.specs.Table.{tableOf, refusal}
+use Rattle.graph_rules.specs.Graph.{graphBuffer}
+use Rattle.graph_rules.specs.Build.{Built, errorWords, build}
 use Rattle.graph.specs.declared.new.Counts.{Counts}
-use Rattle.graph.specs.declared.new.Answer.{Answer}
-use Rattle.graph.specs.declared.new.Answer.the-variants.{Built as Made, Refused}
+use Rattle.graph.specs.declared.new.BuildAnswer.{BuildAnswer}
+use Rattle.graph.specs.declared.new.BuildAnswer.the-variants.{Built as Made, Refused}
 
 -- in document 01's numbers: states, root, errors, error words
-abbrev pub builtTold : Answer → Told
-builtTold (Made c) = telling (c .states ∷ c .root ∷ c .errors ∷ c .words ∷ [])
-builtTold (Refused n) = refusing n 4
+abbrev pub builtReport : BuildAnswer → Report
+builtReport (Made c) = reporting (c .states ∷ c .root ∷ c .errors ∷ c .words ∷ [])
+builtReport (Refused n) = refusing n 4
 
 -- an answer, and the two buffers after it
 pub record Outcome : Type 0 where
-  pub answer : Answer
+  pub answer : BuildAnswer
   pub graph : List ℕ
   pub errors : List ℕ
 

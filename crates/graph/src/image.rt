@@ -4,7 +4,7 @@ ghost use mathlib.Core.List.{_++_};
 ghost use Prim.Native.Nat.{_+_, _*_, _/_, _≤_, _<_};
 ghost use lib.ListN.{length, getD, drop};
 ghost use Rattle.graph.specs.New.{wordsOf, Outcome, imageOf};
-use crate::new::Answer;
+use crate::new::BuildAnswer;
 
 // Word i of an image.
 fn word(image: &[u8], i: usize) -> u16
@@ -30,14 +30,14 @@ fn unpack(image: &[u8], out: &mut [u16])
 }
 
 // The build of a table from its image; or 13, and then 1 to 9, and both buffers as they were.
-pub fn from_image(image: &[u8], graph: &mut [u16], errors: &mut [u16]) -> Answer
+pub fn from_image(image: &[u8], graph: &mut [u16], errors: &mut [u16]) -> BuildAnswer
     ensures { λ r. ⌜ record { answer = r; graph = now (graph .exit); errors = now (errors .exit) } ≡ imageOf (now (image .entry)) (now (graph .entry)) (now (errors .entry)) ⌝ }
 {
     if image.len() % 2 == 1 {
-        return Answer::Refused(13);
+        return BuildAnswer::Refused(13);
     }
     if 65536 < image.len() {
-        return Answer::Refused(13);
+        return BuildAnswer::Refused(13);
     }
     let mut space = [0u16; 32768];
     unpack(image, &mut space);

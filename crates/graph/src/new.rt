@@ -6,9 +6,9 @@ ghost use mathlib.Core.Option.{some};
 ghost use mathlib.Core.List.{[], _∷_, _++_, map};
 ghost use Prim.Native.Nat.{_+_, _-_, _*_, _≤_};
 ghost use lib.ListN.{length, getD, drop, replicate};
-ghost use Rattle.rules.specs.Table.{tableOf, refusal};
-ghost use Rattle.rules.specs.Graph.{graphBuffer};
-ghost use Rattle.rules.specs.Build.{noUniversalStart, emptyMatch, emptyLeaves, noStates, reached, unpruned, pruned, merged, buildFrom};
+ghost use Rattle.graph_rules.specs.Table.{tableOf, refusal};
+ghost use Rattle.graph_rules.specs.Graph.{graphBuffer};
+ghost use Rattle.graph_rules.specs.Build.{noUniversalStart, emptyMatch, emptyLeaves, noStates, reached, unpruned, pruned, merged, buildFrom};
 ghost use Rattle.graph.specs.New.{Outcome, wroteOr9, newOf};
 
 // How many states the graph has, its root, how many errors there are, and how many words they take.
@@ -19,7 +19,7 @@ pub struct Counts {
     pub words: usize,
 }
 
-pub enum Answer {
+pub enum BuildAnswer {
     Built(Counts),
     Refused(u8),
 }
@@ -35,17 +35,17 @@ fn no_states(graph: &mut [u16], n: usize)
 }
 
 // Rule 1, where there is no universal start.
-fn without_start(n: usize, graph: &mut [u16], errors: &mut [u16]) -> Answer
+fn without_start(n: usize, graph: &mut [u16], errors: &mut [u16]) -> BuildAnswer
     requires { ⌜ n ≤ 1024 ⌝ }
     requires { ⌜ 2 + 258 * n ≤ length (now graph) ⌝ }
     ensures { λ r. ⌜ record { answer = r; graph = now (graph .exit); errors = now (errors .exit) } ≡ wroteOr9 n (noStates (noUniversalStart ∷ [])) (now (graph .entry)) (now (errors .entry)) ⌝ }
 {
     if errors.len() < 2 {
-        return Answer::Refused(9);
+        return BuildAnswer::Refused(9);
     }
     conflicts::write_no_start(errors);
     no_states(graph, n);
-    Answer::Built(Counts {
+    BuildAnswer::Built(Counts {
         states: 0,
         root: 0,
         errors: 1,
@@ -60,7 +60,7 @@ fn with_empty(
     n: usize,
     graph: &mut [u16],
     errors: &mut [u16],
-) -> Answer
+) -> BuildAnswer
     requires { ⌜ refusal (now table) ≡ 0 ⌝ }
     requires { ⌜ count ≡ length (emptyLeaves (tableOf (now table))) ⌝ }
     requires { ⌜ n ≤ 1024 ⌝ }
@@ -69,11 +69,11 @@ fn with_empty(
 {
     let words = 3 * count;
     if errors.len() < words {
-        return Answer::Refused(9);
+        return BuildAnswer::Refused(9);
     }
     conflicts::write_empty(table, errors);
     no_states(graph, n);
-    Answer::Built(Counts {
+    BuildAnswer::Built(Counts {
         states: 0,
         root: 0,
         errors: count,
@@ -103,7 +103,7 @@ fn with_states(
     n: usize,
     graph: &mut [u16],
     errors: &mut [u16],
-) -> Answer
+) -> BuildAnswer
     requires { ⌜ refusal (now table) ≡ 0 ⌝ }
     requires { ⌜ tableOf (now table) .start ≡ some start ⌝ }
     requires { ⌜ n ≡ getD (now table) 0 0 ⌝ }
@@ -113,13 +113,13 @@ fn with_states(
     let set = reach::reached(table, start);
     let ties = conflicts::tie_words(table, &set);
     if errors.len() < ties.words {
-        return Answer::Refused(9);
+        return BuildAnswer::Refused(9);
     }
     conflicts::write_ties(table, &set, errors);
     write_graph(table, start, &set, graph);
     let states = words::word(graph, 0);
     let root = words::word(graph, 1);
-    Answer::Built(Counts {
+    BuildAnswer::Built(Counts {
         states: states,
         root: root,
         errors: ties.errors,
@@ -128,16 +128,16 @@ fn with_states(
 }
 
 // The build of a table: its graph and its errors, written into the lent words; or 1 to 9, and both buffers as they were.
-pub fn new(table: &[u16], graph: &mut [u16], errors: &mut [u16]) -> Answer
+pub fn new(table: &[u16], graph: &mut [u16], errors: &mut [u16]) -> BuildAnswer
     ensures { λ r. ⌜ record { answer = r; graph = now (graph .exit); errors = now (errors .exit) } ≡ newOf (now (table .entry)) (now (graph .entry)) (now (errors .entry)) ⌝ }
 {
     let refusal = legal::check(table);
     if refusal != 0 {
-        return Answer::Refused(refusal as u8);
+        return BuildAnswer::Refused(refusal as u8);
     }
     let n = words::table::states(table);
     if graph.len() < words::graph::place(n, 0) {
-        return Answer::Refused(8);
+        return BuildAnswer::Refused(8);
     }
     let start = words::table::start(table);
     if start == 65535 {

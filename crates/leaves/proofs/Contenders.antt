@@ -11,8 +11,8 @@ use lib.Dec.{eqb}
 use lib.ListN.{getD}
 use Rattle.lists.specs.Lists.{those}
 use Rattle.lists.proofs.Bools.{Is, is, yes-is, no-is}
-use Rattle.rules.specs.Table.{Table, tableOf, rowOf, leafAt, matchOf, refusal}
-use Rattle.rules.specs.Build.{chainFrom, chain, highest, contenders, single, leafOf}
+use Rattle.graph_rules.specs.Table.{Table, tableOf, rowOf, leafAt, matchOf, refusal}
+use Rattle.graph_rules.specs.Build.{chainFrom, chain, highest, contenders, single, leafOf}
 use Rattle.leaves.specs.Chains.{recordsFrom, records, priorityAt, highestFrom, firstWith, topOf, nextTied, tieFrom}
 use Rattle.leaves.proofs.Records.{next-below, head-below}
 

@@ -7,8 +7,8 @@ use Prim.Native.Nat.{ℕ, _≤_, _<_}
 use native.Mathlib.Omega.{arith}
 use lib.ListN.{length, getD, List·getD-eq-default}
 use Rattle.lists.proofs.Bools.{lt-or-le}
-use Rattle.rules.specs.Table.{Row, tableOf, rowOf, matchOf, refusal}
-use Rattle.rules.proofs.Flat.{head-word}
+use Rattle.graph_rules.specs.Table.{Row, tableOf, rowOf, matchOf, refusal}
+use Rattle.graph_rules.proofs.Flat.{head-word}
 use Rattle.legal.specs.Conditions.{Sized, leafWord}
 use Rattle.legal.proofs.Counts.{rows-length}
 use Rattle.legal.proofs.Judging.{match-leaf, match-next}

@@ -6,8 +6,8 @@ use Prim.Native.Nat.{ℕ, zero, suc}
 use lib.Dec.{eqb}
 use lib.ListN.{getD}
 use Rattle.lists.specs.Lists.{those}
-use Rattle.rules.specs.Table.{Table, rowOf, leafAt, matchOf}
-use Rattle.rules.specs.Build.{highest}
+use Rattle.graph_rules.specs.Table.{Table, rowOf, leafAt, matchOf}
+use Rattle.graph_rules.specs.Build.{highest}
 
 -- the numbers of the records of the chain from record i, with at most k records
 abbrev pub recordsFrom : Table → ℕ → ℕ → List ℕ

@@ -8,7 +8,7 @@ use lib.Seq.{length-take-le}
 use Rattle.lists.specs.Lists.{pieces}
 use Rattle.lists.proofs.Pieces.{pieces-length, pieces-width}
 use Rattle.lists.proofs.Elements.{map-at}
-use Rattle.rules.specs.Table.{Row, tableOf, rowOf}
+use Rattle.graph_rules.specs.Table.{Row, tableOf, rowOf}
 use Rattle.legal.specs.Conditions.{states, leaves, Sized}
 
 module _ (w : List ℕ) where

@@ -9,9 +9,9 @@ use lib.Dec.{eqb}
 use lib.ListN.{length}
 use Rattle.lists.specs.Lists.{below, those}
 use Rattle.lists.proofs.Those.{count-more, count-same}
-use Rattle.rules.specs.Table.{tableOf, leafAt}
-use Rattle.rules.specs.Build.{emptyLeaves}
-use Rattle.rules.proofs.Flat.{empty-word}
+use Rattle.graph_rules.specs.Table.{tableOf, leafAt}
+use Rattle.graph_rules.specs.Build.{emptyLeaves}
+use Rattle.graph_rules.proofs.Flat.{empty-word}
 use Rattle.legal.specs.Conditions.{leaves, emptyWord}
 use Rattle.legal.proofs.Counts.{leaves-length}
 

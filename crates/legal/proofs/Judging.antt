@@ -12,8 +12,8 @@ use lib.ListN.{length, getD}
 use Rattle.lists.specs.Lists.{allL}
 use Rattle.lists.proofs.Bools.{Is, is, yes-is, no-is, and-both, and-intro, or-cases, or-left, or-right}
 use Rattle.lists.proofs.Judged.{Judged, judged-false, all-judged, below-judged}
-use Rattle.rules.specs.Table.{Leaf, Row, tableOf, rowOf, leafAt, matchOf, matchFits, step, emptiesFit, targetsFit, headsFit, recordsFit}
-use Rattle.rules.proofs.Flat.{step-word, head-word, empty-word, leaf-word, next-word}
+use Rattle.graph_rules.specs.Table.{Leaf, Row, tableOf, rowOf, leafAt, matchOf, matchFits, step, emptiesFit, targetsFit, headsFit, recordsFit}
+use Rattle.graph_rules.proofs.Flat.{step-word, head-word, empty-word, leaf-word, next-word}
 use Rattle.legal.specs.Conditions.{states, leaves, records, emptyWord, targetWord, headWord, leafWord, nextWord, Sized, RecordFits}
 use Rattle.legal.proofs.Counts.{leaves-length, rows-length, row-width}
 

@@ -12,8 +12,8 @@ use borrow.Author.Tests.{eqb-true, ltb-true, leb-true, lt-ltb, le-leb, eq-eqb}
 use lib.Dec.{eqb, leb, ltb}
 use lib.ListN.{length, getD}
 use Rattle.lists.proofs.Bools.{and-both, and-intro, or-cases, or-left, or-right}
-use Rattle.rules.specs.Table.{conditions, firstBroken, refusal, countsFit, emptiesFit, targetsFit, headsFit, recordsFit}
-use Rattle.rules.proofs.Shape.{none-broken}
+use Rattle.graph_rules.specs.Table.{conditions, firstBroken, refusal, countsFit, emptiesFit, targetsFit, headsFit, recordsFit}
+use Rattle.graph_rules.proofs.Shape.{none-broken}
 use Rattle.words.specs.Places.{tableLength}
 use Rattle.legal.specs.Conditions.{states, leaves, records, Sized, Legal}
 use Rattle.legal.proofs.Judging.{empties-judged, targets-judged, heads-judged, records-all, records-each}

@@ -12,10 +12,10 @@ use Rattle.lists.proofs.Any.{any-at, any-found}
 use Rattle.lists.proofs.Closure.{closure-is, closure-length, closure-sound, closure-complete, reach-below}
 use Rattle.lists.proofs.Padding.{padded}
 use Rattle.lists.proofs.Worklist.{AllIn}
-use Rattle.rules.specs.Table.{tableOf, rowOf, size, step, refusal}
-use Rattle.rules.specs.Build.{stepsTo, reached}
-use Rattle.rules.proofs.Flat.{step-word}
-use Rattle.rules.proofs.Shape.{size-is}
+use Rattle.graph_rules.specs.Table.{tableOf, rowOf, size, step, refusal}
+use Rattle.graph_rules.specs.Build.{stepsTo, reached}
+use Rattle.graph_rules.proofs.Flat.{step-word}
+use Rattle.graph_rules.proofs.Shape.{size-is}
 use Rattle.legal.specs.Conditions.{states, targetWord}
 use Rattle.legal.proofs.Counts.{row-width}
 use Rattle.legal.proofs.Legal.{legal-means}

@@ -1,8 +1,8 @@
 // Refusals 1 to 7: the conditions on a table's words, judged in document 01's order, so that no word is read that is not there.
 ghost use mathlib.Core.Path.{_≡_};
 ghost use lib.ListN.{length};
-ghost use Rattle.rules.specs.Build.{emptyLeaves};
-ghost use Rattle.rules.specs.Table.{refusal, tableOf, countsFit, emptiesFit, targetsFit, headsFit, recordsFit};
+ghost use Rattle.graph_rules.specs.Build.{emptyLeaves};
+ghost use Rattle.graph_rules.specs.Table.{refusal, tableOf, countsFit, emptiesFit, targetsFit, headsFit, recordsFit};
 ghost use Rattle.legal.specs.Conditions.{Sized};
 use words::table::leaf_word;
 use words::table::leaves;

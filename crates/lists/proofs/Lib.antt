@@ -20,4 +20,4 @@ pub mod Disjunctions
 pub mod Intervals
 pub mod Selecting
 pub mod Numbers
-pub mod Tellings
+pub mod Reports

@@ -1,3 +1,3 @@
 pub mod Lists
 pub mod Sets
-pub mod Told
+pub mod Report

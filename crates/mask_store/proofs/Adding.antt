@@ -9,14 +9,14 @@ use borrow.Author.Tests.{ltb-true, ltb-false, lt-ltb, le-ltb, le-leb, eq-eqb}
 use lib.Dec.{eqb, leb, ltb}
 use lib.ListN.{length, getD, drop, length-append}
 use lib.Seq.{drop-at}
-use Rattle.lists.specs.Told.{telling, refusing}
+use Rattle.lists.specs.Report.{reporting, refusing}
 use Rattle.lists.proofs.Bools.{and-intro, Is, yes-is, no-is, is}
 use Rattle.classes.specs.Classes.{Class, has}
 use Rattle.mask_store.specs.declared.MaskStore.{MaskStore}
 use Rattle.mask_store.specs.declared.AddAnswer.the-variants.{Number, Refused}
 use Rattle.mask_store.specs.declared.Added.{Added}
 use Rattle.bits.specs.Bits.{bit}
-use Rattle.mask_store.specs.Masks.{add, addTold, classAt, held, heldWith, numberOf, among, written, writtenAll, grown, storeOf, allowed, takes, refusedWith}
+use Rattle.mask_store.specs.Masks.{add, addReport, classAt, held, heldWith, numberOf, among, written, writtenAll, grown, storeOf, allowed, takes, refusedWith}
 use Rattle.mask_store.proofs.Numbers.{number-at, number-most, number-back, number-here, same-self}
 use Rattle.mask_store.proofs.Search.{allowed-count}
 use Rattle.mask_store.proofs.MaskLaws.{length-held, held-at, length-written, class-own, class-other, bits-after, table-at}
@@ -100,12 +100,12 @@ module _ (s : MaskStore) (c : Class) where
   add-full a n h = rw (takes-one, a, n, le-ltb (s .count) 64 h)
 
   -- the answer in document 01's numbers
-  pub add-told : addTold (add s c .answer) ≡ cond (takes s (c ∷ [])) (telling (numberOf (held s) c ∷ [])) (refusing 15 1)
+  pub add-report : addReport (add s c .answer) ≡ cond (takes s (c ∷ [])) (reporting (numberOf (held s) c ∷ [])) (refusing 15 1)
   unfolding add
-  add-told = go (takes s (c ∷ []))
+  add-report = go (takes s (c ∷ []))
     where
-      go : (t : Bool) → addTold (cond {A = Added} t (record { answer = Number (numberOf (held s) c); store = grown s (c ∷ []) }) (record { answer = Refused 15; store = s }) .answer)
-          ≡ cond t (telling (numberOf (held s) c ∷ [])) (refusing 15 1)
+      go : (t : Bool) → addReport (cond {A = Added} t (record { answer = Number (numberOf (held s) c); store = grown s (c ∷ []) }) (record { answer = Refused 15; store = s }) .answer)
+          ≡ cond t (reporting (numberOf (held s) c ∷ [])) (refusing 15 1)
       go true = refl
       go false = refl
 

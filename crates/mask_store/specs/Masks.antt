@@ -5,7 +5,7 @@ use Prim.Native.Nat.{ℕ, suc, _+_, _*_, _-_, _/_, _%_, _^_, min}
 use lib.Dec.{leb, ltb}
 use lib.ListN.{length, getD, take, drop, replicate}
 use Rattle.lists.specs.Lists.{tab, eqList}
-use Rattle.lists.specs.Told.{Told, telling, refusing}
+use Rattle.lists.specs.Report.{Report, reporting, refusing}
 use Rattle.bits.specs.Bits.{isSet, withBit}
 use Rattle.classes.specs.Classes.{Class}
 use Rattle.mask_store.specs.declared.MaskStore.{MaskStore}
@@ -101,9 +101,9 @@ unfoldable pub add : MaskStore → Class → Added
 add s c = cond (takes s (c ∷ [])) (record { answer = Number (numberOf (held s) c); store = grown s (c ∷ []) }) (refusedWith s)
 
 -- its answer in document 01's numbers
-abbrev pub addTold : AddAnswer → Told
-addTold (Number i) = telling (i ∷ [])
-addTold (Refused n) = refusing n 1
+abbrev pub addReport : AddAnswer → Report
+addReport (Number i) = reporting (i ∷ [])
+addReport (Refused n) = refusing n 1
 
 -- ---- "`render_luts` gives the eight tables of 256 bytes, unused bits 0": the masks of table t that are in use are its lowest bits
 

@@ -20,11 +20,11 @@ use Rattle.lists.proofs.Elements.{map-at}
 use Rattle.lists.proofs.Padding.{default-any, replicate-at}
 use Rattle.lists.proofs.Selecting.{select-in, select-out, select-whole}
 use Rattle.lists.proofs.Worklist.{none-in}
-use Rattle.rules.specs.Graph.{State, Graph, blank, stateOf, same, orNone}
-use Rattle.rules.specs.Build.{relabel, mergeRound}
-use Rattle.rules.proofs.Fits.{Root}
-use Rattle.rules.proofs.Merge.{same-sound, names}
-use Rattle.rules.proofs.Nones.{or-none, or-number}
+use Rattle.graph_rules.specs.Graph.{State, Graph, blank, stateOf, same, orNone}
+use Rattle.graph_rules.specs.Build.{relabel, mergeRound}
+use Rattle.graph_rules.proofs.Fits.{Root}
+use Rattle.graph_rules.proofs.Merge.{same-sound, names}
+use Rattle.graph_rules.proofs.Nones.{or-none, or-number}
 use Rattle.merge.specs.Equals.{Lowest}
 use Rattle.relabel.specs.Names.{namesOf, Fitting}
 use Rattle.relabel.proofs.Naming.{relabel-alike, fitting-alike, round-fitting}

@@ -10,11 +10,11 @@ use lib.ListN.{length, getD, drop}
 use Rattle.lists.specs.Lists.{distinct}
 use Rattle.lists.proofs.Bools.{Is, is, yes-is, no-is}
 use Rattle.lists.proofs.Distinct.{distinct-length}
-use Rattle.rules.specs.Graph.{Graph, same, graphFits, graphFrom, graphBuffer}
-use Rattle.rules.specs.Build.{mergeRound, mergesNone, mergeFor, merged}
-use Rattle.rules.proofs.Fits.{Fits, round-fits}
-use Rattle.rules.proofs.Merge.{same-sound, round-length}
-use Rattle.rules.proofs.Flat.{from-length}
+use Rattle.graph_rules.specs.Graph.{Graph, same, graphFits, graphFrom, graphBuffer}
+use Rattle.graph_rules.specs.Build.{mergeRound, mergesNone, mergeFor, merged}
+use Rattle.graph_rules.proofs.Fits.{Fits, round-fits}
+use Rattle.graph_rules.proofs.Merge.{same-sound, round-length}
+use Rattle.graph_rules.proofs.Flat.{from-length}
 use Rattle.words.proofs.GraphWords.{taken-fits}
 use Rattle.words.proofs.Buffers.{buffer-back, taken-words, written-over}
 

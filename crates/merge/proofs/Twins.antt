@@ -12,10 +12,10 @@ use Rattle.lists.specs.Lists.{pieces}
 use Rattle.lists.proofs.Bools.{lt-or-le}
 use Rattle.lists.proofs.Elements.{map-at}
 use Rattle.lists.proofs.Pieces.{pieces-length, piece-word}
-use Rattle.rules.specs.Graph.{State, blank, stateOf, to, acceptOf, earlyOf, stateFrom, graphFrom, graphFits}
-use Rattle.rules.proofs.Flat.{piece-length, from-to}
-use Rattle.rules.proofs.Taken.{taken-long}
-use Rattle.rules.proofs.Nones.{or-same}
+use Rattle.graph_rules.specs.Graph.{State, blank, stateOf, to, acceptOf, earlyOf, stateFrom, graphFrom, graphFits}
+use Rattle.graph_rules.proofs.Flat.{piece-length, from-to}
+use Rattle.graph_rules.proofs.Taken.{taken-long}
+use Rattle.graph_rules.proofs.Nones.{or-same}
 use Rattle.words.proofs.GraphWords.{accept-is, early-is}
 
 module _ (w : List ℕ) (taken : graphFits w ≡ true) (s t : ℕ) (hs : s < getD w 0 0) (ht : t < getD w 0 0) where

@@ -8,8 +8,8 @@ ghost use mathlib.Core.Bool.{true, false, not, cond};
 ghost use mathlib.Core.List.{_++_};
 ghost use Prim.Native.Nat.{ℕ, _+_, _*_, _<_};
 ghost use lib.ListN.{getD, drop};
-ghost use Rattle.rules.specs.Graph.{graphFits, graphFrom, graphBuffer, stateOf};
-ghost use Rattle.rules.specs.Build.{mergeRound, mergesNone, merged};
+ghost use Rattle.graph_rules.specs.Graph.{graphFits, graphFrom, graphBuffer, stateOf};
+ghost use Rattle.graph_rules.specs.Build.{mergeRound, mergesNone, merged};
 ghost use Rattle.merge.specs.Equals.{Lowest};
 
 // The lowest state whose marks, 256 targets and end target are those of state s. `stay` tells which states before s equal none before them.

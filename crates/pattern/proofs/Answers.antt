@@ -30,9 +30,9 @@ module _ (w bytes : List ℕ) where
   no-greedy-tree e = rw (e, greedyOf)
 
   module _ (fits : treeFits w bytes ≡ true) where
-    pub greedy-told : (b : Bool) → b ≡ greedyAll (root w bytes) → greedy-answer.Found b ≡ greedyOf w bytes
+    pub greedy-report : (b : Bool) → b ≡ greedyAll (root w bytes) → greedy-answer.Found b ≡ greedyOf w bytes
     unfolding greedyOf
-    greedy-told b e = rw (fits, greedyOf) (ap {B = GreedyAnswer} greedy-answer.Found e)
+    greedy-report b e = rw (fits, greedyOf) (ap {B = GreedyAnswer} greedy-answer.Found e)
 
     pub root-held : (widths : List ℕ) → widths ≡ tab 0 256 widthOf → Within w bytes widths (count w) × (0 < count w)
     root-held widths e = (record { fits = fits; table = e; below = omega arith }, tree-rules w bytes fits .some)

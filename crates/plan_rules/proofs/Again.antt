@@ -10,7 +10,7 @@ use lib.Dec.{eqb, leb, ltb}
 use lib.ListN.{length, getD, take, replicate}
 use Rattle.lists.specs.Lists.{below, anyL, allL, eqList}
 use Rattle.lists.proofs.Elements.{all-intro, eqb-sound, list-sound}
-use Rattle.rules.specs.Graph.{State, Graph, stateOf}
+use Rattle.graph_rules.specs.Graph.{State, Graph, stateOf}
 use Rattle.classes.specs.Classes.{Class}
 use Rattle.mask_store.specs.declared.MaskStore.{MaskStore}
 use Rattle.mask_store.specs.Masks.{held, numberOf, among, noneTwice, met, heldWith, grown, allowed, takes}

@@ -12,7 +12,7 @@ use lib.ListN.{length, take, drop, replicate, length-append, take-append-drop}
 use Rattle.lists.specs.Lists.{below, anyL, allL, eqList}
 use Rattle.lists.proofs.Bools.{Is, yes-is, no-is, is, and-both, and-intro, or-cases, bool-ext}
 use Rattle.lists.proofs.Elements.{eqb-sound, list-sound, length-nil}
-use Rattle.rules.specs.Graph.{State, Graph, stateOf}
+use Rattle.graph_rules.specs.Graph.{State, Graph, stateOf}
 use Rattle.classes.specs.Classes.{Class}
 use Rattle.mask_store.specs.declared.MaskStore.{MaskStore}
 use Rattle.mask_store.specs.Masks.{held, numberOf, among, met, heldWith, takes}

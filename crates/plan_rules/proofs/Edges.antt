@@ -11,7 +11,7 @@ use lib.Dec.{eqb, leb, ltb}
 use lib.ListN.{length, getD, drop, replicate, getD-replicate}
 use lib.Seq.{getD-take}
 use Rattle.lists.specs.Lists.{anyL, allL, eqOption}
-use Rattle.rules.specs.Graph.{State, Graph, stateOf, to}
+use Rattle.graph_rules.specs.Graph.{State, Graph, stateOf, to}
 use Rattle.classes.specs.Classes.{Class, has, cost}
 use Rattle.mask_store.specs.declared.MaskStore.{MaskStore}
 use Rattle.mask_store.specs.Masks.{maskHas, numberOf, heldWith}

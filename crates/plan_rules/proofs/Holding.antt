@@ -9,7 +9,7 @@ use lib.Dec.{ltb}
 use lib.ListN.{length, getD}
 use Rattle.lists.proofs.Bools.{and-both, and-intro}
 use Rattle.lists.proofs.Elements.{all-at, all-intro}
-use Rattle.rules.specs.Graph.{Graph}
+use Rattle.graph_rules.specs.Graph.{Graph}
 use Rattle.classes.specs.Classes.{Class}
 use Rattle.mask_store.specs.declared.MaskStore.{MaskStore}
 use Rattle.mask_store.specs.Masks.{classAt, sameClass, numberOf, heldWith}

@@ -8,10 +8,10 @@ use Prim.Native.Nat.{ℕ, _+_, _*_, _≤_, _<_}
 use native.Mathlib.Omega.{arith}
 use lib.ListN.{length, getD, List·getD-eq-default}
 use Rattle.lists.proofs.Bools.{none-some, lt-or-le}
-use Rattle.rules.specs.Graph.{State, blank, stateOf, to, graphFrom, graphFits}
-use Rattle.rules.proofs.Nones.{or-some}
-use Rattle.rules.proofs.Flat.{from-length, from-width, from-to}
-use Rattle.rules.proofs.Taken.{taken-long, taken-few, taken-root, taken-target}
+use Rattle.graph_rules.specs.Graph.{State, blank, stateOf, to, graphFrom, graphFits}
+use Rattle.graph_rules.proofs.Nones.{or-some}
+use Rattle.graph_rules.proofs.Flat.{from-length, from-width, from-to}
+use Rattle.graph_rules.proofs.Taken.{taken-long, taken-few, taken-root, taken-target}
 
 module _ (graph : List ℕ) (legal : graphFits graph ≡ true) where
   -- a state has 257 steps

@@ -10,7 +10,7 @@ use lib.ListN.{length}
 use Rattle.lists.specs.Lists.{anyL, allL}
 use Rattle.lists.proofs.Bools.{and-both, and-intro}
 use Rattle.lists.proofs.Elements.{all-at}
-use Rattle.rules.specs.Graph.{State, Graph, stateOf, graphFrom, graphFits}
+use Rattle.graph_rules.specs.Graph.{State, Graph, stateOf, graphFrom, graphFits}
 use Rattle.classes.specs.Classes.{Class}
 use Rattle.mask_store.specs.declared.MaskStore.{MaskStore}
 use Rattle.mask_store.specs.Masks.{among, heldWith, grown, allowed, takes}

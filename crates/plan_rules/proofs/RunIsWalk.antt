@@ -13,8 +13,8 @@ use lib.ListN.{length, getD, take, drop, replicate, length-append, length-map, l
 use Rattle.lists.specs.Lists.{below, allL, eqOption, eqList, pieces}
 use Rattle.lists.proofs.Elements.{length-tab, getD-tab0, map-at, all-at, eqb-sound, option-sound, list-sound}
 use Rattle.lists.proofs.Pieces.{pieces-length}
-use Rattle.rules.specs.Graph.{State, Graph, blank, stateOf, to, acceptOf, earlyOf}
-use Rattle.rules.specs.Read.{Bytes, Reading, mark, late, onward, walk, graphWalker, readGraph}
+use Rattle.graph_rules.specs.Graph.{State, Graph, blank, stateOf, to, acceptOf, earlyOf}
+use Rattle.graph_rules.specs.Read.{Bytes, Reading, mark, late, onward, walk, graphWalker, readGraph}
 use Rattle.classes.specs.Classes.{Class}
 use Rattle.mask_store.specs.declared.MaskStore.{MaskStore}
 use Rattle.mask_store.specs.Masks.{heldWith, takes, allowed}

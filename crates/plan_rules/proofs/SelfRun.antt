@@ -3,8 +3,8 @@ use mathlib.Core.Path.{_≡_, refl, ap}
 use mathlib.Core.List.{List, [], _∷_}
 use mathlib.Core.Option.{Option, none, some}
 use Prim.Native.Nat.{ℕ, suc}
-use Rattle.rules.specs.Graph.{Graph, to, acceptOf, earlyOf}
-use Rattle.rules.specs.Read.{Reading, mark, late, onward, walk, graphWalker}
+use Rattle.graph_rules.specs.Graph.{Graph, to, acceptOf, earlyOf}
+use Rattle.graph_rules.specs.Read.{Reading, mark, late, onward, walk, graphWalker}
 
 pub mark-again : (early accept : Option ℕ) (k : ℕ) (r : Reading) → mark early accept (suc k) (mark early accept k r) ≡ mark early accept (suc k) r
 mark-again (some l) a k r = refl

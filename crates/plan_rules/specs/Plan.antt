@@ -5,7 +5,7 @@ use Prim.Native.Nat.{ℕ, suc, _*_, _-_, _≤_}
 use lib.Dec.{eqb, ltb}
 use lib.ListN.{length, replicate}
 use Rattle.lists.specs.Lists.{below, anyL, allL}
-use Rattle.rules.specs.Graph.{State, Graph, stateOf}
+use Rattle.graph_rules.specs.Graph.{State, Graph, stateOf}
 use Rattle.classes.specs.Classes.{Class, cost}
 use Rattle.mask_store.specs.declared.MaskStore.{MaskStore}
 use Rattle.mask_store.specs.Masks.{classAt, sameClass, numberOf, heldWith}

@@ -6,8 +6,8 @@ use Prim.Native.Nat.{ℕ, zero, suc, _+_}
 use lib.Dec.{eqb, leb, ltb}
 use lib.ListN.{length, getD, take, drop}
 use Rattle.lists.specs.Lists.{allL, pieces, eqList}
-use Rattle.rules.specs.Graph.{State, Graph, stateOf, to, acceptOf, earlyOf}
-use Rattle.rules.specs.Read.{Reading, mark, late, onward}
+use Rattle.graph_rules.specs.Graph.{State, Graph, stateOf, to, acceptOf, earlyOf}
+use Rattle.graph_rules.specs.Read.{Reading, mark, late, onward}
 use Rattle.classes.specs.Classes.{comparisons, someHolds}
 use Rattle.mask_store.specs.declared.MaskStore.{MaskStore}
 use Rattle.mask_store.specs.Masks.{maskHas}

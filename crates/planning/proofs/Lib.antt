@@ -1,4 +1,4 @@
 pub mod Planning
 pub mod StoreAfter
 pub mod PlanValues
-pub mod Told
+pub mod Report

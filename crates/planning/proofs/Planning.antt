@@ -6,8 +6,8 @@ use Prim.Native.Nat.{ℕ, _+_, _-_, _*_, _≤_, _<_}
 use native.Mathlib.Omega.{arith}
 use borrow.Author.Tests.{lt-ltb, le-ltb}
 use lib.ListN.{length, getD, drop, length-append}
-use Rattle.rules.specs.Graph.{Graph, graphFrom, graphFits}
-use Rattle.rules.proofs.Flat.{from-length}
+use Rattle.graph_rules.specs.Graph.{Graph, graphFrom, graphFits}
+use Rattle.graph_rules.proofs.Flat.{from-length}
 use Rattle.classes.specs.Classes.{Class}
 use Rattle.mask_store.specs.declared.MaskStore.{MaskStore}
 use Rattle.mask_store.specs.Masks.{held, heldWith, grown, takes}
@@ -17,8 +17,8 @@ use Rattle.mask_store.proofs.Growth.{grown-size, held-grown}
 use Rattle.plan_rules.specs.Plan.{base, needs, planWords, planOf, planSize}
 use Rattle.plan_rules.proofs.OwnStore.{needs-whole}
 use Rattle.plan_rules.proofs.RunIsWalk.{takes-few}
-use Rattle.choices.specs.declared.needs.Grown.{Grown}
-use Rattle.choices.specs.Needs.{grownBy}
+use Rattle.plan_rows.specs.declared.needs.Grown.{Grown}
+use Rattle.plan_rows.specs.Needs.{grownBy}
 use Rattle.planning.specs.declared.plan.PlanAnswer.the-variants.{Planned}
 use Rattle.planning.specs.Plan.{PlanCall, noPlan, planCall}
 

@@ -9,7 +9,7 @@ use lib.Dec.{leb, ltb}
 use lib.ListN.{length, getD}
 use Rattle.lists.proofs.Bools.{Is, yes-is, no-is, is}
 use Rattle.bits.specs.Bits.{bit}
-use Rattle.rules.specs.Graph.{graphFrom, graphFits}
+use Rattle.graph_rules.specs.Graph.{graphFrom, graphFits}
 use Rattle.classes.specs.Classes.{has}
 use Rattle.mask_store.specs.declared.MaskStore.{MaskStore}
 use Rattle.mask_store.specs.Masks.{heldWith, takes, grown}

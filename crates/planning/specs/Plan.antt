@@ -4,8 +4,8 @@ use mathlib.Core.List.{List, [], _∷_, _++_}
 use Prim.Native.Nat.{ℕ, _-_}
 use lib.Dec.{ltb}
 use lib.ListN.{length, drop}
-use Rattle.lists.specs.Told.{Told, telling, refusing}
-use Rattle.rules.specs.Graph.{graphFrom, graphFits}
+use Rattle.lists.specs.Report.{Report, reporting, refusing}
+use Rattle.graph_rules.specs.Graph.{graphFrom, graphFits}
 use Rattle.mask_store.specs.declared.MaskStore.{MaskStore}
 use Rattle.mask_store.specs.Masks.{grown, takes}
 use Rattle.plan_rules.specs.Plan.{Settings, needs, planOf, planSize}
@@ -14,9 +14,9 @@ use Rattle.planning.specs.declared.plan.PlanAnswer.the-variants.{Planned
 use Rattle.planning.specs.declared.plan.Planning.{Planning}
 
 -- in document 01's numbers: how many classes the store gained
-abbrev pub planTold : PlanAnswer → Told
-planTold (Planned n) = telling (n ∷ [])
-planTold (Refused n) = refusing n 1
+abbrev pub planReport : PlanAnswer → Report
+planReport (Planned n) = reporting (n ∷ [])
+planReport (Refused n) = refusing n 1
 
 -- what planning leaves: its answer, the store, the plan buffer
 pub record PlanCall : Type 0 where

@@ -38,14 +38,14 @@ pub fn plan_by_value(graph: &[u16], out: &mut [u16], store: MaskStore) -> Planni
     if out.len() < 3 * states {
         return refused(14, store);
     }
-    let grown = choices::needs::grow(graph, store);
+    let grown = plan_rows::needs::grow(graph, store);
     if !grown.taken {
         return refused(15, store);
     }
     let after = grown.store;
     let tables = after.tables;
     let count = after.count;
-    choices::rows::write(graph, out, &tables, count);
+    plan_rows::rows::write(graph, out, &tables, count);
     let before = store.count;
     Planning {
         answer: PlanAnswer::Planned(count - before),

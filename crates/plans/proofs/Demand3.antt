@@ -7,15 +7,15 @@ use mathlib.Core.List.{List, [], _++_}
 use Prim.Native.Nat.{ℕ}
 use borrow.Author.Tests.{le-ltb}
 use lib.ListN.{length, drop}
-use Rattle.rules.specs.Table.{tableOf}
-use Rattle.rules.specs.Graph.{Graph, graphFrom}
-use Rattle.rules.specs.Build.{emptyLeaves}
-use Rattle.rules.specs.Read.{Bytes, Orderly, Clean, readGraph}
-use Rattle.rules.proofs.Promises.{clean-no-empty}
+use Rattle.graph_rules.specs.Table.{tableOf}
+use Rattle.graph_rules.specs.Graph.{Graph, graphFrom}
+use Rattle.graph_rules.specs.Build.{emptyLeaves}
+use Rattle.graph_rules.specs.Read.{Bytes, Orderly, Clean, readGraph}
+use Rattle.graph_rules.proofs.Promises.{clean-no-empty}
 use Rattle.readings.specs.declared.read.Read.the-variants.{Refused}
 use Rattle.graph.specs.declared.new.Counts.{Counts}
-use Rattle.graph.specs.declared.new.Answer.the-variants.{Built as Made}
-use Rattle.readings.specs.Answers.{reading, readTold, tableRead, graphRead}
+use Rattle.graph.specs.declared.new.BuildAnswer.the-variants.{Built as Made}
+use Rattle.readings.specs.Answers.{reading, readReport, tableRead, graphRead}
 use Rattle.graph.specs.New.{newOf}
 use Rattle.readings.proofs.Answering.{graph-answered}
 use Rattle.graph.proofs.ReadingsAlike.{returned-taken, tied-alike as graph-tied}
@@ -111,11 +111,11 @@ module _ (set : Settings) (sane : Sane set) (table graph errors : List ℕ) (c :
   -- and so in document 01's numbers
   pub told-alike : Clean (tableOf table) → (buffer : List ℕ) (store : MaskStore) (added : ℕ) → planCall set built buffer store .planning .answer ≡ Planned added
       → (other : MaskStore) → allowed other ≡ true → holdsPlan set (graphFrom built) store other ≡ true → (text : List ℕ) → Bytes text
-      → (readTold (graphRead built text) ≡ readTold (tableRead table text))
-      × (readTold (runCall set built (planCall set built buffer store .buffer) other text) ≡ readTold (tableRead table text))
+      → (readReport (graphRead built text) ≡ readReport (tableRead table text))
+      × (readReport (runCall set built (planCall set built buffer store .buffer) other text) ≡ readReport (tableRead table text))
   told-alike clean buffer store added p other fine holds text bytes =
       let a = readings-alike clean text bytes in
-      (ap readTold (a .graph-alike), ap readTold (a .run-alike buffer store added p other fine holds))
+      (ap readReport (a .graph-alike), ap readReport (a .run-alike buffer store added p other fine holds))
 
 -- ---- the same of the calls themselves, whose settings are document 01's: `new` was answered with counts; then what `read_table` answers of a clean table,
 -- `read_graph` answers of the words that `new` left, and `run` answers by the plan that `plan` left for them

@@ -2,4 +2,4 @@ pub mod Running
 pub mod PlannedScans
 pub mod Unrefused
 pub mod Demand3
-pub mod Told
+pub mod Report

@@ -9,8 +9,8 @@ use borrow.Author.Tests.{ltb-false, eq-eqb, ne-eqb}
 use lib.ListN.{length, take, drop}
 use lib.Seq.{getD-drop}
 use Rattle.lists.proofs.Bools.{Is, is, yes-is, no-is}
-use Rattle.rules.specs.Graph.{Graph, graphFrom, graphFits}
-use Rattle.rules.specs.Read.{Reading, Bytes, readGraph}
+use Rattle.graph_rules.specs.Graph.{Graph, graphFrom, graphFits}
+use Rattle.graph_rules.specs.Read.{Reading, Bytes, readGraph}
 use Rattle.mask_store.specs.declared.MaskStore.{MaskStore}
 use Rattle.plan_rules.specs.Plan.{base}
 use Rattle.plan_rules.specs.Run.{runFrom, rowsOf}

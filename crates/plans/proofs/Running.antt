@@ -12,8 +12,8 @@ use lib.ListN.{length, take, drop}
 use Rattle.lists.specs.Lists.{eqList}
 use Rattle.lists.proofs.Bools.{Is, is, yes-is, no-is, and-both, and-intro, and-right-false, or-cases, or-left, or-right}
 use Rattle.lists.proofs.Elements.{eqb-sound, list-sound}
-use Rattle.rules.specs.Graph.{Graph, graphFrom, graphFits}
-use Rattle.rules.specs.Read.{Reading}
+use Rattle.graph_rules.specs.Graph.{Graph, graphFrom, graphFits}
+use Rattle.graph_rules.specs.Read.{Reading}
 use Rattle.classes.specs.Classes.{Class}
 use Rattle.mask_store.specs.declared.MaskStore.{MaskStore}
 use Rattle.mask_store.specs.Masks.{held, heldWith, grown, allowed, takes}

@@ -9,8 +9,8 @@ use borrow.Author.Tests.{eqb-true, ltb-true}
 use lib.Dec.{eqb, ltb}
 use lib.ListN.{length, drop}
 use Rattle.lists.proofs.Bools.{Is, yes-is, no-is, is}
-use Rattle.rules.specs.Graph.{Graph, graphFrom, graphFits}
-use Rattle.rules.specs.Read.{Bytes, Reading, readGraph}
+use Rattle.graph_rules.specs.Graph.{Graph, graphFrom, graphFits}
+use Rattle.graph_rules.specs.Read.{Bytes, Reading, readGraph}
 use Rattle.readings.specs.declared.read.Read.the-variants.{Refused}
 use Rattle.readings.specs.Answers.{reading, graphRead}
 use Rattle.readings.proofs.Answering.{graph-answered}

@@ -6,8 +6,8 @@ use mathlib.Core.Option.{none}
 use Prim.Native.Nat.{ℕ}
 use lib.Dec.{eqb, ltb}
 use lib.ListN.{length}
-use Rattle.rules.specs.Graph.{Graph, graphFrom, graphFits}
-use Rattle.rules.specs.Read.{Bytes, readGraph}
+use Rattle.graph_rules.specs.Graph.{Graph, graphFrom, graphFits}
+use Rattle.graph_rules.specs.Read.{Bytes, readGraph}
 use Rattle.readings.specs.declared.read.Read.{Read}
 use Rattle.readings.specs.declared.read.Read.the-variants.{Refused}
 use Rattle.readings.specs.Answers.{reading}

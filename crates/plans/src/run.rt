@@ -1,7 +1,7 @@
 // A text run by the plan of a graph.
 ghost use mathlib.Core.Path.{_≡_};
 ghost use mathlib.Core.Bool.{true};
-ghost use Rattle.rules.specs.Graph.{graphFits, graphFrom};
+ghost use Rattle.graph_rules.specs.Graph.{graphFits, graphFrom};
 ghost use Rattle.plan_rules.specs.Plan.{base};
 ghost use Rattle.plans.specs.Run.{planRefusal, runRefusal, runCall};
 use mask_store::MaskStore;
@@ -17,7 +17,7 @@ pub(crate) fn refusal(graph: &[u16], plan: &[u16], store: MaskStore) -> u8
     if plan.len() < 3 * states {
         return 14;
     }
-    let grown = choices::needs::grow(graph, store);
+    let grown = plan_rows::needs::grow(graph, store);
     if !grown.taken {
         return 15;
     }
@@ -28,7 +28,7 @@ pub(crate) fn refusal(graph: &[u16], plan: &[u16], store: MaskStore) -> u8
         return 14;
     }
     let tables = store.tables;
-    if choices::rows::agrees(graph, plan, &tables, count) {
+    if plan_rows::rows::agrees(graph, plan, &tables, count) {
         0
     } else {
         14

@@ -7,10 +7,10 @@ use native.Mathlib.Omega.{arith}
 use lib.Dec.{eqb, ltb}
 use lib.ListN.{length, getD, drop, length-append}
 use Rattle.lists.proofs.Bools.{Is, is, yes-is, no-is}
-use Rattle.rules.specs.Table.{tableOf}
-use Rattle.rules.specs.Graph.{Graph, graphFrom, graphFits}
-use Rattle.rules.specs.Build.{Built, build, errorWords}
-use Rattle.rules.proofs.Taken.{taken-long}
+use Rattle.graph_rules.specs.Table.{tableOf}
+use Rattle.graph_rules.specs.Graph.{Graph, graphFrom, graphFits}
+use Rattle.graph_rules.specs.Build.{Built, build, errorWords}
+use Rattle.graph_rules.proofs.Taken.{taken-long}
 use Rattle.graph.specs.New.{Outcome, refusedBy, conflicts, wrote, wordsOf, newOf, imageOf}
 use Rattle.graph.specs.declared.new.Counts.{Counts}
 use Rattle.graph.specs.declared.new.Answer.{Answer}

@@ -9,7 +9,7 @@ use lib.Dec.{leb}
 use lib.ListN.{length, getD, drop, length-append, length-drop}
 use lib.Seq.{getD-drop, drop-at}
 use Rattle.lists.proofs.Bools.{and-both, and-intro}
-use Rattle.rules.specs.Build.{Error, noUniversalStart, emptyMatch, disambiguation, errorWords}
+use Rattle.graph_rules.specs.Build.{Error, noUniversalStart, emptyMatch, disambiguation, errorWords}
 use Rattle.display.specs.Text.{bytes}
 use Rattle.display.specs.Display.{lineOf, conflictLine}
 use Rattle.display.specs.Answers.{errorFits}

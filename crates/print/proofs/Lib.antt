@@ -1,4 +1,4 @@
 pub mod Errors
 pub mod Answers
 pub mod Rooms
-pub mod Told
+pub mod Report

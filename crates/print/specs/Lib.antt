@@ -1,3 +1,3 @@
 pub mod Print
 pub mod Parts
-pub mod Told
+pub mod Report

@@ -4,7 +4,7 @@ use mathlib.Core.Bool.{Bool, true, _&&_}
 use mathlib.Core.List.{List, [], _++_}
 use Prim.Native.Nat.{ℕ, zero, suc, _+_}
 use lib.ListN.{getD, drop}
-use Rattle.rules.specs.Graph.{graphFrom, graphFits}
+use Rattle.graph_rules.specs.Graph.{graphFrom, graphFits}
 use Rattle.graph.specs.declared.new.Answer.{Answer}
 use Rattle.graph.specs.declared.new.Answer.the-variants.{Built as Made, Refused}
 use Rattle.display.specs.Display.{displayed, lineOf}

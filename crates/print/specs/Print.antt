@@ -2,8 +2,8 @@
 use mathlib.Core.List.{List, _++_, flatMap}
 use Prim.Native.Nat.{ℕ}
 use lib.ListN.{replicate}
-use Rattle.rules.specs.Table.{tableOf}
-use Rattle.rules.specs.Build.{Built, build}
+use Rattle.graph_rules.specs.Table.{tableOf}
+use Rattle.graph_rules.specs.Build.{Built, build}
 use Rattle.graph.specs.New.{wordsOf, imageOf}
 use Rattle.graph.specs.declared.new.Answer.{Answer}
 use Rattle.graph.specs.declared.new.Answer.the-variants.{Built as Made, Refused}

@@ -14,10 +14,10 @@ use Rattle.lists.proofs.Bools.{Is, is, yes-is, no-is, or-left, or-right, lt-or-
 use Rattle.lists.proofs.Closure.{closure-is, closure-length}
 use Rattle.lists.proofs.Padding.{padded}
 use Rattle.lists.proofs.Worklist.{Work, AllIn, none-in, closed}
-use Rattle.rules.specs.Graph.{Graph, stateOf, acceptOf, earlyOf, leads, orNone, graphFrom, graphFits}
-use Rattle.rules.specs.Build.{present, marked, kept}
-use Rattle.rules.proofs.Flat.{from-accept, from-early}
-use Rattle.rules.proofs.Taken.{taken-long}
+use Rattle.graph_rules.specs.Graph.{Graph, stateOf, acceptOf, earlyOf, leads, orNone, graphFrom, graphFits}
+use Rattle.graph_rules.specs.Build.{present, marked, kept}
+use Rattle.graph_rules.proofs.Flat.{from-accept, from-early}
+use Rattle.graph_rules.proofs.Taken.{taken-long}
 use Rattle.prune.specs.Matrix.{bitAt}
 use Rattle.prune.proofs.BitRows.{byte-none}
 

@@ -14,8 +14,8 @@ use Rattle.lists.proofs.Bools.{Is, is, yes-is, no-is, bool-ext, some-inj}
 use Rattle.lists.proofs.Padding.{replicate-at}
 use Rattle.bits.specs.Bits.{isSet, withBit}
 use Rattle.bits.proofs.Bits.{bit-zero, set-own, set-other}
-use Rattle.rules.specs.Graph.{Graph, stateOf, to, leads}
-use Rattle.rules.proofs.Views.{edge-leads, edge-within, leads-edge}
+use Rattle.graph_rules.specs.Graph.{Graph, stateOf, to, leads}
+use Rattle.graph_rules.proofs.Views.{edge-leads, edge-within, leads-edge}
 use Rattle.prune.specs.Matrix.{bitAt}
 use Rattle.words.proofs.Edges.{Pass, pass-none, pass-more, pass-skip, pass-row}
 

@@ -14,7 +14,7 @@ use Rattle.lists.specs.Sets.{In, from-seed, by-edge, count}
 use Rattle.lists.proofs.Bools.{Is, is, yes-is, no-is}
 use Rattle.lists.proofs.Closure.{count-length, in-below}
 use Rattle.lists.proofs.Worklist.{AllIn, none-in, pop, push, finish, in-keeps, in-cases, count-more, count-room}
-use Rattle.rules.specs.Graph.{Graph, stateOf, leads}
+use Rattle.graph_rules.specs.Graph.{Graph, stateOf, leads}
 use Rattle.prune.specs.Matrix.{bitAt}
 use Rattle.prune.proofs.Backward.{seed, Good, found, Search, search-none, found-there, found-byte}
 

@@ -12,10 +12,10 @@ use Rattle.lists.specs.Lists.{select, numberFrom}
 use Rattle.lists.proofs.Numbers.{number-padded}
 use Rattle.lists.proofs.Padding.{padding-at}
 use Rattle.lists.proofs.Selecting.{select-whole}
-use Rattle.rules.specs.Graph.{State, Graph}
-use Rattle.rules.specs.Build.{relabel, restrict, kept, pruned}
-use Rattle.rules.proofs.Fits.{Root}
-use Rattle.rules.proofs.Prune.{kept-length}
+use Rattle.graph_rules.specs.Graph.{State, Graph}
+use Rattle.graph_rules.specs.Build.{relabel, restrict, kept, pruned}
+use Rattle.graph_rules.proofs.Fits.{Root}
+use Rattle.graph_rules.proofs.Prune.{kept-length}
 use Rattle.relabel.specs.Names.{Fitting}
 use Rattle.relabel.proofs.Naming.{relabel-alike, fitting-alike, pruned-fitting}
 

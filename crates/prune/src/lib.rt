@@ -12,8 +12,8 @@ ghost use mathlib.Core.List.{_++_};
 ghost use Prim.Native.Nat.{ℕ, _+_, _*_, _-_, _<_};
 ghost use lib.Dec.{eqb};
 ghost use lib.ListN.{getD, drop, replicate};
-ghost use Rattle.rules.specs.Graph.{graphFits, graphFrom, graphBuffer, stateOf, leads};
-ghost use Rattle.rules.specs.Build.{kept, marked, pruned};
+ghost use Rattle.graph_rules.specs.Graph.{graphFits, graphFrom, graphBuffer, stateOf, leads};
+ghost use Rattle.graph_rules.specs.Build.{kept, marked, pruned};
 ghost use Rattle.prune.specs.Matrix.{bitAt};
 
 // The parents of every state, by byte and end edges: bit p of row t is set if state p leads to state t.

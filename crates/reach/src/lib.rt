@@ -5,8 +5,8 @@ ghost use mathlib.Core.Bool.{false};
 ghost use mathlib.Core.List.{_++_};
 ghost use Prim.Native.Nat.{_<_, _-_};
 ghost use lib.ListN.{getD, replicate};
-ghost use Rattle.rules.specs.Build.{reached};
-ghost use Rattle.rules.specs.Table.{refusal, tableOf};
+ghost use Rattle.graph_rules.specs.Build.{reached};
+ghost use Rattle.graph_rules.specs.Table.{refusal, tableOf};
 use words::table::leaves;
 use words::table::row_word;
 

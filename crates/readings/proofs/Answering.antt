@@ -4,9 +4,9 @@ use mathlib.Core.Bool.{true, false}
 use mathlib.Core.List.{List}
 use Prim.Native.Nat.{ℕ}
 use borrow.Author.Tests.{eq-eqb, ne-eqb}
-use Rattle.rules.specs.Table.{tableOf, refusal}
-use Rattle.rules.specs.Graph.{graphFits, graphFrom}
-use Rattle.rules.specs.Read.{readGraph, readTable}
+use Rattle.graph_rules.specs.Table.{tableOf, refusal}
+use Rattle.graph_rules.specs.Graph.{graphFits, graphFrom}
+use Rattle.graph_rules.specs.Read.{readGraph, readTable}
 use Rattle.readings.specs.declared.read.Read.the-variants.{Refused}
 use Rattle.readings.specs.Answers.{reading, graphRead, tableRead}
 

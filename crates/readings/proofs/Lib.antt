@@ -1,4 +1,4 @@
 pub mod Turn
 pub mod Answering
 pub mod TableTurn
-pub mod Told
+pub mod Report

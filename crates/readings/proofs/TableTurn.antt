@@ -7,14 +7,14 @@ use native.Mathlib.Omega.{arith}
 use native.Mathlib.Numerals.{add-one}
 use borrow.Author.Tests.{eq-eqb, ne-eqb}
 use lib.ListN.{length, getD, drop}
-use Rattle.rules.specs.Table.{Table, tableOf, refusal, size, step}
-use Rattle.rules.specs.Graph.{orNone}
-use Rattle.rules.specs.Build.{leafOf, edge}
-use Rattle.rules.specs.Read.{Reading, late, onward, walk, tableWalker, readTable}
-use Rattle.rules.proofs.LeafWords.{leaf-back}
-use Rattle.rules.proofs.Shape.{legal-step, legal-start, size-is, exact}
-use Rattle.rules.proofs.Flat.{step-word}
-use Rattle.rules.proofs.Walks.{walk-at, walk-done}
+use Rattle.graph_rules.specs.Table.{Table, tableOf, refusal, size, step}
+use Rattle.graph_rules.specs.Graph.{orNone}
+use Rattle.graph_rules.specs.Build.{leafOf, edge}
+use Rattle.graph_rules.specs.Read.{Reading, late, onward, walk, tableWalker, readTable}
+use Rattle.graph_rules.proofs.LeafWords.{leaf-back}
+use Rattle.graph_rules.proofs.Shape.{legal-step, legal-start, size-is, exact}
+use Rattle.graph_rules.proofs.Flat.{step-word}
+use Rattle.graph_rules.proofs.Walks.{walk-at, walk-done}
 
 edge-none : (u : ℕ) → u ≡ 0 → edge u ≡ none
 edge-none u e = ap edge e

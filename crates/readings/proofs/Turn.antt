@@ -9,14 +9,14 @@ use native.Mathlib.Omega.{arith}
 use native.Mathlib.Numerals.{add-one}
 use borrow.Author.Tests.{eq-eqb, ne-eqb}
 use lib.ListN.{length, getD, drop}
-use Rattle.rules.specs.Graph.{to, acceptOf, orNone, graphFrom, graphFits}
-use Rattle.rules.specs.Read.{Reading, late, mark, onward, walk, graphWalker, readGraph}
+use Rattle.graph_rules.specs.Graph.{to, acceptOf, orNone, graphFrom, graphFits}
+use Rattle.graph_rules.specs.Read.{Reading, late, mark, onward, walk, graphWalker, readGraph}
 use Rattle.readings.specs.Answers.{recorded}
-use Rattle.rules.proofs.Walks.{walk-at, walk-done}
-use Rattle.rules.proofs.Views.{out-quiet}
-use Rattle.rules.proofs.Taken.{taken-long, taken-target}
-use Rattle.rules.proofs.Flat.{from-to, from-accept, from-early, from-length}
-use Rattle.rules.proofs.Nones.{or-none, or-number}
+use Rattle.graph_rules.proofs.Walks.{walk-at, walk-done}
+use Rattle.graph_rules.proofs.Views.{out-quiet}
+use Rattle.graph_rules.proofs.Taken.{taken-long, taken-target}
+use Rattle.graph_rules.proofs.Flat.{from-to, from-accept, from-early, from-length}
+use Rattle.graph_rules.proofs.Nones.{or-none, or-number}
 
 -- ---- records
 

@@ -1,13 +1,13 @@
--- What the calls of this crate answer, by the definitions of `rules`. Definitions only.
+-- What the calls of this crate answer, by the definitions of `graph_rules`. Definitions only.
 use mathlib.Core.Bool.{true, false, cond}
 use mathlib.Core.List.{List, [], _∷_}
 use mathlib.Core.Option.{none, some}
 use Prim.Native.Nat.{ℕ}
 use lib.Dec.{eqb}
-use Rattle.lists.specs.Told.{Told, telling, refusing}
-use Rattle.rules.specs.Table.{tableOf, refusal}
-use Rattle.rules.specs.Graph.{graphFits, graphFrom}
-use Rattle.rules.specs.Read.{Reading, readGraph, readTable}
+use Rattle.lists.specs.Report.{Report, reporting, refusing}
+use Rattle.graph_rules.specs.Table.{tableOf, refusal}
+use Rattle.graph_rules.specs.Graph.{graphFits, graphFrom}
+use Rattle.graph_rules.specs.Read.{Reading, readGraph, readTable}
 use Rattle.readings.specs.declared.read.Read.{Read}
 use Rattle.readings.specs.declared.read.Read.the-variants.{Found, Nothing, Refused}
 
@@ -22,10 +22,10 @@ reading none = Nothing
 reading (some f) = Found (f .leaf) (f .end)
 
 -- in document 01's numbers: whether there is a reading, its leaf, its end
-abbrev pub readTold : Read → Told
-readTold (Found leaf end) = telling (1 ∷ leaf ∷ end ∷ [])
-readTold Nothing = telling (0 ∷ 0 ∷ 0 ∷ [])
-readTold (Refused n) = refusing n 3
+abbrev pub readReport : Read → Report
+readReport (Found leaf end) = reporting (1 ∷ leaf ∷ end ∷ [])
+readReport Nothing = reporting (0 ∷ 0 ∷ 0 ∷ [])
+readReport (Refused n) = refusing n 3
 
 -- `read_graph`: 12, or the reading
 unfoldable pub graphRead : List ℕ → List ℕ → Read

@@ -1,4 +1,4 @@
 // The readings of a text by a table and by a graph (document 01, "Reading a text"). What a call answers is defined in specs/Answers.antt, over the
-// walks of rules/specs/Read.antt. That the two are alike for a clean table and its graph is proved in the crates above.
+// walks of graph_rules/specs/Read.antt. That the two are alike for a clean table and its graph is proved in the crates above.
 pub mod read;
 pub mod read_table;

@@ -3,8 +3,8 @@ ghost use mathlib.Core.Path.{_≡_};
 ghost use mathlib.Core.Bool.{true};
 ghost use Prim.Native.Nat.{ℕ, suc, _/_, _%_, _<_};
 ghost use lib.ListN.{length, getD};
-ghost use Rattle.rules.specs.Graph.{graphFits, graphFrom, orNone};
-ghost use Rattle.rules.specs.Read.{readGraph, mark, late};
+ghost use Rattle.graph_rules.specs.Graph.{graphFits, graphFrom, orNone};
+ghost use Rattle.graph_rules.specs.Read.{readGraph, mark, late};
 ghost use Rattle.readings.specs.Answers.{recorded, reading, graphRead};
 
 // A leaf and where its match ends, or none; or the number of a refusal.
@@ -37,7 +37,7 @@ pub fn accepted(accept: usize, k: usize, r: Record) -> Record
 }
 
 // The record at a state with these marks, entered by k byte steps.
-pub fn entered(marks: usize, k: usize, r: Record) -> Record
+pub fn mark_at(marks: usize, k: usize, r: Record) -> Record
     ensures { λ q. ⌜ recorded (q .leaf) (q .end) ≡ mark (orNone 255 (marks / 256)) (orNone 255 (marks % 256)) k (recorded (r .leaf) (r .end)) ⌝ }
 {
     let early = marks / 256;
@@ -51,7 +51,7 @@ pub fn entered(marks: usize, k: usize, r: Record) -> Record
 }
 
 // The record at a state of that accept, entered by the end step after k byte steps: only accept is read there.
-pub fn left(accept: usize, k: usize, r: Record) -> Record
+pub fn accept_at_end(accept: usize, k: usize, r: Record) -> Record
     ensures { λ q. ⌜ recorded (q .leaf) (q .end) ≡ late (orNone 255 accept) (suc k) (recorded (r .leaf) (r .end)) ⌝ }
 {
     if accept == 255 {
@@ -84,7 +84,7 @@ pub fn walk(graph: &[u16], text: &[u8]) -> Record
     let mut k: usize = 0;
     while k < text.len() {
         let marks = words::graph::word(graph, s, 257);
-        r = entered(marks, k, r);
+        r = mark_at(marks, k, r);
         let b = byte(text, k);
         let t = words::graph::word(graph, s, b);
         if t == 65535 {
@@ -94,13 +94,13 @@ pub fn walk(graph: &[u16], text: &[u8]) -> Record
         k += 1;
     }
     let marks = words::graph::word(graph, s, 257);
-    r = entered(marks, k, r);
+    r = mark_at(marks, k, r);
     let t = words::graph::word(graph, s, 256);
     if t == 65535 {
         return r;
     }
     let last = words::graph::word(graph, t, 257);
-    left(last % 256, k, r)
+    accept_at_end(last % 256, k, r)
 }
 
 // A record as an answer.

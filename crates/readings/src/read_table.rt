@@ -2,8 +2,8 @@
 ghost use mathlib.Core.Path.{_≡_};
 ghost use Prim.Native.Nat.{_<_};
 ghost use lib.ListN.{getD};
-ghost use Rattle.rules.specs.Table.{tableOf, refusal, step};
-ghost use Rattle.rules.specs.Read.{readTable};
+ghost use Rattle.graph_rules.specs.Table.{tableOf, refusal, step};
+ghost use Rattle.graph_rules.specs.Read.{readTable};
 ghost use Rattle.readings.specs.Answers.{recorded, tableRead};
 use crate::read::Read;
 use crate::read::Record;
@@ -50,7 +50,7 @@ fn walk(table: &[u16], text: &[u8]) -> Record
         return r;
     }
     let last = leaves::leaf_of(table, t);
-    crate::read::left(last, k, r)
+    crate::read::accept_at_end(last, k, r)
 }
 
 // The reading of a text by a table, or 1 to 7.

@@ -16,12 +16,12 @@ use Rattle.lists.proofs.Numbering.{number-count}
 use Rattle.lists.proofs.Numbers.{number-length, number-none, count-few}
 use Rattle.lists.proofs.Padding.{replicate-at}
 use Rattle.lists.proofs.Worklist.{count-take-in, count-take-out}
-use Rattle.rules.specs.Graph.{State, Graph, orNone, same}
-use Rattle.rules.specs.Build.{renamed, relabel, kept}
-use Rattle.rules.proofs.Fits.{Root, restrict-rooted, round-rooted}
-use Rattle.rules.proofs.Merge.{names, placed}
-use Rattle.rules.proofs.Nones.{or-none, or-number}
-use Rattle.rules.proofs.Prune.{kept-length, kept-root, restrict-placed}
+use Rattle.graph_rules.specs.Graph.{State, Graph, orNone, same}
+use Rattle.graph_rules.specs.Build.{renamed, relabel, kept}
+use Rattle.graph_rules.proofs.Fits.{Root, restrict-rooted, round-rooted}
+use Rattle.graph_rules.proofs.Merge.{names, placed}
+use Rattle.graph_rules.proofs.Nones.{or-none, or-number}
+use Rattle.graph_rules.proofs.Prune.{kept-length, kept-root, restrict-placed}
 use Rattle.relabel.specs.Names.{namesOf, Fitting}
 
 -- ---- numbering: the numbers below s have been passed, k of them are members

@@ -11,12 +11,12 @@ use native.Mathlib.Omega.{arith}
 use lib.ListN.{length, getD, set, drop, length-map, length-append, length-set, List·getD-append}
 use lib.Seq.{getD-append-seam, getD-set-same, getD-set-other}
 use Rattle.words.specs.Places.{graphPlace}
-use Rattle.rules.specs.Graph.{State, Graph, blank, stateOf, to, acceptOf, earlyOf, orNone, graphFrom, graphFits, graphBuffer}
-use Rattle.rules.specs.Build.{renamed, relabel}
-use Rattle.rules.proofs.Fits.{Fits}
-use Rattle.rules.proofs.Flat.{from-to}
-use Rattle.rules.proofs.Rename.{led, relabel-to, relabel-accept, relabel-early}
-use Rattle.rules.proofs.Taken.{taken-few, taken-long}
+use Rattle.graph_rules.specs.Graph.{State, Graph, blank, stateOf, to, acceptOf, earlyOf, orNone, graphFrom, graphFits, graphBuffer}
+use Rattle.graph_rules.specs.Build.{renamed, relabel}
+use Rattle.graph_rules.proofs.Fits.{Fits}
+use Rattle.graph_rules.proofs.Flat.{from-to}
+use Rattle.graph_rules.proofs.Rename.{led, relabel-to, relabel-accept, relabel-early}
+use Rattle.graph_rules.proofs.Taken.{taken-few, taken-long}
 use Rattle.relabel.specs.Names.{namesOf, Moved, Zeroed}
 use Rattle.words.proofs.GraphWords.{accept-is, early-is}
 use Rattle.words.proofs.Buffers.{same-after, written}

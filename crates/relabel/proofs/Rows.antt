@@ -13,9 +13,9 @@ use lib.Seq.{getD-set-same, getD-set-other}
 use Rattle.lists.proofs.Bools.{Is, is, yes-is, no-is}
 use Rattle.lists.proofs.Padding.{default-any}
 use Rattle.words.specs.Places.{graphPlace}
-use Rattle.rules.specs.Graph.{orNone}
-use Rattle.rules.proofs.Rename.{led}
-use Rattle.rules.proofs.Nones.{or-word}
+use Rattle.graph_rules.specs.Graph.{orNone}
+use Rattle.graph_rules.proofs.Rename.{led}
+use Rattle.graph_rules.proofs.Nones.{or-word}
 use Rattle.relabel.specs.Names.{namesOf, renamedWord, Moved, Zeroed}
 
 -- ---- names, from their words

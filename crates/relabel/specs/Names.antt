@@ -8,7 +8,7 @@ use Prim.Native.Nat.{ℕ, _≤_, _<_}
 use lib.Dec.{eqb}
 use lib.ListN.{length, getD}
 use Rattle.words.specs.Places.{graphPlace}
-use Rattle.rules.specs.Graph.{State, orNone}
+use Rattle.graph_rules.specs.Graph.{State, orNone}
 
 -- 65,535 for none
 abbrev pub namesOf : List ℕ → List (Option ℕ)

@@ -10,8 +10,8 @@ ghost use Prim.Native.Nat.{ℕ, _+_, _*_, _<_, _≤_};
 ghost use lib.ListN.{length, getD, drop};
 ghost use Rattle.lists.specs.Lists.{select, numberFrom};
 ghost use Rattle.words.specs.Places.{graphPlace};
-ghost use Rattle.rules.specs.Graph.{graphFits, graphFrom, graphBuffer};
-ghost use Rattle.rules.specs.Build.{relabel};
+ghost use Rattle.graph_rules.specs.Graph.{graphFits, graphFrom, graphBuffer};
+ghost use Rattle.graph_rules.specs.Build.{relabel};
 ghost use Rattle.relabel.specs.Names.{namesOf, renamedWord, Fitting, Moved, Zeroed};
 
 // A target word, renamed.

@@ -1,7 +1,7 @@
 // The two calls, on every case of one kind.
 ghost use Prim.Native.Nat.{_<_};
 use crate::cases::Stored;
-use graph::new::Answer;
+use graph::new::BuildAnswer;
 use vectors::tally::Case;
 use vectors::tally::Tally;
 
@@ -51,7 +51,7 @@ fn answer(
     image: &[u8],
     graph: &mut [u16],
     errors: &mut [u16],
-) -> Answer {
+) -> BuildAnswer {
     if from_image {
         graph::image::from_image(image, graph, errors)
     } else {

@@ -1,7 +1,7 @@
 // A call's answer and the two buffers after it, compared with a case. Both buffers were filled with one value before.
 ghost use Prim.Native.Nat.{_<_};
 use crate::cases::Stored;
-use graph::new::Answer;
+use graph::new::BuildAnswer;
 use graph::new::Counts;
 
 // The n of a table.
@@ -47,7 +47,7 @@ fn untouched(graph: &[u16], errors: &[u16], fill: u16) -> bool {
 
 // What a call on the table answered and left in the buffers, against the case; `refusal` is the one that is said of the call.
 pub(crate) fn alike(
-    answer: Answer,
+    answer: BuildAnswer,
     table: &[u16],
     graph: &[u16],
     errors: &[u16],
@@ -57,13 +57,13 @@ pub(crate) fn alike(
     refusal: usize,
 ) -> bool {
     match answer {
-        Answer::Built(c) => {
+        BuildAnswer::Built(c) => {
             refusal == 0
                 && counts_alike(c, list, case)
                 && graph_alike(graph, states(table), fill, list, case.graph_words)
                 && errors_alike(errors, fill, list, case.error_words)
         }
-        Answer::Refused(r) => {
+        BuildAnswer::Refused(r) => {
             refusal != 0 && r as usize == refusal && untouched(graph, errors, fill)
         }
     }

@@ -1,7 +1,7 @@
 // The build of a table: its words against the stored graph words; and whether the table is clean.
 ghost use Prim.Native.Nat.{_<_};
 use clean::Verdict;
-use graph::new::Answer;
+use graph::new::BuildAnswer;
 use graph::new::Counts;
 
 // Word i, or 0.
@@ -61,11 +61,11 @@ fn built_alike(
     vectors::parts::fill(errors, 0, e, value);
     let answer = graph::new::new(table, built, errors);
     match answer {
-        Answer::Built(c) => {
+        BuildAnswer::Built(c) => {
             counts_alike(c, stored, clean, errors, value)
                 && graph_alike(built, word(table, 0), value, list, at)
         }
-        Answer::Refused(_) => false,
+        BuildAnswer::Refused(_) => false,
     }
 }
 

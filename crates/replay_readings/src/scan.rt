@@ -1,5 +1,5 @@
 // A scan, call by call: each piece, then ended, then 16.
-use plans::scan::Answer;
+use plans::scan::NextAnswer;
 use plans::scan::Place;
 use plans::scan::Scan;
 use plans::scan::Scanned;
@@ -63,10 +63,10 @@ pub(crate) fn piece_end(list: &[u8], at: usize, text: &[u8], start: usize) -> us
 fn piece_alike(scanned: Scanned, leaf: usize, start: usize, end: usize) -> bool {
     let answer = scanned.answer;
     let same = match answer {
-        Answer::Token(l, s, e) => leaf != 255 && l == leaf && s == start && e == end,
-        Answer::Gap(s, e) => leaf == 255 && s == start && e == end,
-        Answer::Ended => false,
-        Answer::Refused(_) => false,
+        NextAnswer::Token(l, s, e) => leaf != 255 && l == leaf && s == start && e == end,
+        NextAnswer::Gap(s, e) => leaf == 255 && s == start && e == end,
+        NextAnswer::Ended => false,
+        NextAnswer::Refused(_) => false,
     };
     same && reads_at(scanned.scan, end)
 }
@@ -75,10 +75,10 @@ fn piece_alike(scanned: Scanned, leaf: usize, start: usize, end: usize) -> bool 
 fn ended_alike(scanned: Scanned) -> bool {
     let answer = scanned.answer;
     let same = match answer {
-        Answer::Token(_, _, _) => false,
-        Answer::Gap(_, _) => false,
-        Answer::Ended => true,
-        Answer::Refused(_) => false,
+        NextAnswer::Token(_, _, _) => false,
+        NextAnswer::Gap(_, _) => false,
+        NextAnswer::Ended => true,
+        NextAnswer::Refused(_) => false,
     };
     same && has_ended(scanned.scan)
 }
@@ -88,10 +88,10 @@ pub(crate) fn refused(scan: Scan, graph: &[u16], text: &[u8], refusal: usize) ->
     let scanned = scan.next(graph, text);
     let answer = scanned.answer;
     let same = match answer {
-        Answer::Token(_, _, _) => false,
-        Answer::Gap(_, _) => false,
-        Answer::Ended => false,
-        Answer::Refused(n) => n as usize == refusal,
+        NextAnswer::Token(_, _, _) => false,
+        NextAnswer::Gap(_, _) => false,
+        NextAnswer::Ended => false,
+        NextAnswer::Refused(n) => n as usize == refusal,
     };
     same && same_scan(scanned.scan, scan)
 }

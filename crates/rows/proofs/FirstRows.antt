@@ -15,10 +15,10 @@ use Rattle.lists.proofs.Elements.{length-tab}
 use Rattle.lists.proofs.Members.{members, members-in, members-out, select-count, select-map, flatMap-one, flatMap-map}
 use Rattle.lists.proofs.Numbering.{number-count}
 use Rattle.lists.proofs.Worklist.{count-take-in, count-take-out}
-use Rattle.rules.specs.Table.{tableOf, size, refusal}
-use Rattle.rules.specs.Graph.{State, Graph, stateWords, graphWords, graphBuffer}
-use Rattle.rules.specs.Build.{reached, renamed, relabel, restrict, firstState, wholeGraph}
-use Rattle.rules.proofs.Shape.{size-is}
+use Rattle.graph_rules.specs.Table.{tableOf, size, refusal}
+use Rattle.graph_rules.specs.Graph.{State, Graph, stateWords, graphWords, graphBuffer}
+use Rattle.graph_rules.specs.Build.{reached, renamed, relabel, restrict, firstState, wholeGraph}
+use Rattle.graph_rules.proofs.Shape.{size-is}
 use Rattle.words.specs.Places.{graphPlace}
 use Rattle.legal.specs.Conditions.{states}
 use Rattle.rows.specs.Renumbering.{firstGraph, newRow}

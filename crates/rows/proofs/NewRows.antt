@@ -12,11 +12,11 @@ use Rattle.lists.specs.Lists.{numberFrom}
 use Rattle.lists.specs.Sets.{In, count}
 use Rattle.lists.proofs.Elements.{map-at}
 use Rattle.lists.proofs.Numbering.{number-count}
-use Rattle.rules.specs.Table.{tableOf, rowOf, step, refusal}
-use Rattle.rules.specs.Graph.{stateWords}
-use Rattle.rules.specs.Build.{reached, leafOf, edge, firstState, renamed}
-use Rattle.rules.proofs.Flat.{step-word}
-use Rattle.rules.proofs.Rename.{led}
+use Rattle.graph_rules.specs.Table.{tableOf, rowOf, step, refusal}
+use Rattle.graph_rules.specs.Graph.{stateWords}
+use Rattle.graph_rules.specs.Build.{reached, leafOf, edge, firstState, renamed}
+use Rattle.graph_rules.proofs.Flat.{step-word}
+use Rattle.graph_rules.proofs.Rename.{led}
 use Rattle.legal.specs.Conditions.{states, targetWord, Sized}
 use Rattle.rows.specs.Renumbering.{newTarget, newRow}
 use Rattle.legal.proofs.Counts.{row-width}

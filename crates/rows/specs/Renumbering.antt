@@ -5,9 +5,9 @@ use mathlib.Core.Option.{Option·getD}
 use Prim.Native.Nat.{ℕ, _+_, _*_}
 use lib.Dec.{eqb}
 use lib.ListN.{getD}
-use Rattle.rules.specs.Table.{Table, rowOf}
-use Rattle.rules.specs.Graph.{Graph}
-use Rattle.rules.specs.Build.{reached, restrict, wholeGraph, leafOf}
+use Rattle.graph_rules.specs.Table.{Table, rowOf}
+use Rattle.graph_rules.specs.Graph.{Graph}
+use Rattle.graph_rules.specs.Build.{reached, restrict, wholeGraph, leafOf}
 
 -- the graph of the states that are reached from s
 abbrev pub firstGraph : Table → ℕ → Graph

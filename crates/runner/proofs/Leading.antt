@@ -10,10 +10,10 @@ use native.Mathlib.Nat.{not-suc-le-zero, le-of-suc-le-suc}
 use lib.ListN.{length, getD, List·getD-eq-default}
 use Rattle.lists.specs.Lists.{tab, those}
 use Rattle.lists.proofs.Bools.{Is, yes-is, no-is, is, lt-or-le}
-use Rattle.rules.specs.Graph.{State, Graph, stateOf, orNone, graphFrom, graphFits}
-use Rattle.rules.proofs.Flat.{from-length, from-to}
-use Rattle.rules.proofs.Taken.{taken-long, taken-few, taken-target}
-use Rattle.rules.proofs.Nones.{or-number}
+use Rattle.graph_rules.specs.Graph.{State, Graph, stateOf, orNone, graphFrom, graphFits}
+use Rattle.graph_rules.proofs.Flat.{from-length, from-to}
+use Rattle.graph_rules.proofs.Taken.{taken-long, taken-few, taken-target}
+use Rattle.graph_rules.proofs.Nones.{or-number}
 use Rattle.classes.specs.Classes.{comparisons, someHolds}
 use Rattle.mask_store.specs.Masks.{maskHas}
 use Rattle.edges.specs.Edges.{classTo, targets, leadsTo}

@@ -13,7 +13,7 @@ use lib.ListN.{length, getD, drop, replicate, take-append-drop}
 use Rattle.lists.proofs.Bools.{Is, yes-is, no-is, is, and-both, or-cases, lt-or-le}
 use Rattle.lists.proofs.Elements.{all-at}
 use Rattle.lists.proofs.Pieces.{pieces-length, pieces-at}
-use Rattle.rules.specs.Graph.{State, Graph, stateOf, to}
+use Rattle.graph_rules.specs.Graph.{State, Graph, stateOf, to}
 use Rattle.classes.specs.Classes.{Class, comparisons, cost}
 use Rattle.mask_store.specs.Masks.{numberOf}
 use Rattle.mask_store.proofs.Numbers.{number-most}

@@ -15,13 +15,13 @@ use Rattle.lists.proofs.Bools.{Order, less, equal, more, order}
 use Rattle.lists.proofs.Elements.{length-tab, getD-tab0, all-at, all-intro, eqb-sound}
 use Rattle.lists.proofs.Distinct.{those-keep}
 use Rattle.classes.specs.Classes.{comparisons, cost}
-use Rattle.rules.specs.Graph.{State, Graph, stateOf, graphFrom}
-use Rattle.rules.proofs.Flat.{from-length}
+use Rattle.graph_rules.specs.Graph.{State, Graph, stateOf, graphFrom}
+use Rattle.graph_rules.proofs.Flat.{from-length}
 use Rattle.edges.specs.Edges.{classTo, leadsTo, targets}
 use Rattle.plan_rules.specs.Plan.{base, byTable}
-use Rattle.choices.specs.Fork.{forkIn, forkOf}
-use Rattle.choices.proofs.Forks.{target-below as edge-below}
-use Rattle.choices.specs.declared.fork.Fork.{Fork}
+use Rattle.plan_rows.specs.Fork.{forkIn, forkOf}
+use Rattle.plan_rows.proofs.Forks.{target-below as edge-below}
+use Rattle.plan_rows.specs.declared.fork.Fork.{Fork}
 use Rattle.runner.specs.Prepared.{testsAt, targetsOf, edgeClass, Prepared}
 use Rattle.runner.proofs.Packed.{Edge}
 

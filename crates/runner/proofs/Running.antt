@@ -11,11 +11,11 @@ use native.Mathlib.Numerals.{add-one}
 use lib.ListN.{length, getD, drop, drop-of-length-le}
 use lib.Seq.{drop-cons}
 use Rattle.lists.specs.Lists.{pieces}
-use Rattle.rules.specs.Graph.{Graph, to, acceptOf, earlyOf, orNone, graphFrom, graphFits}
-use Rattle.rules.specs.Read.{Reading, late, mark, onward}
-use Rattle.rules.proofs.Flat.{from-length, from-to, from-accept, from-early}
-use Rattle.rules.proofs.Nones.{or-none, or-number}
-use Rattle.rules.proofs.Taken.{taken-long, taken-target}
+use Rattle.graph_rules.specs.Graph.{Graph, to, acceptOf, earlyOf, orNone, graphFrom, graphFits}
+use Rattle.graph_rules.specs.Read.{Reading, late, mark, onward}
+use Rattle.graph_rules.proofs.Flat.{from-length, from-to, from-accept, from-early}
+use Rattle.graph_rules.proofs.Nones.{or-none, or-number}
+use Rattle.graph_rules.proofs.Taken.{taken-long, taken-target}
 use Rattle.plan_rules.specs.Plan.{base, planSize}
 use Rattle.plan_rules.specs.Run.{selfOf, selfTakes, ledBy, runFrom, rowsOf}
 use Rattle.plan_rules.proofs.RunIsWalk.{empty-runs}

@@ -7,8 +7,8 @@ use native.Mathlib.Omega.{arith}
 use lib.ListN.{length, getD, drop}
 use lib.Seq.{drop-cons}
 use Rattle.bits.specs.Bits.{isSet}
-use Rattle.rules.specs.Graph.{Graph}
-use Rattle.rules.specs.Read.{Reading}
+use Rattle.graph_rules.specs.Graph.{Graph}
+use Rattle.graph_rules.specs.Read.{Reading}
 use Rattle.mask_store.specs.Masks.{maskHas}
 use Rattle.plan_rules.specs.Run.{selfOf, selfTakes, runFrom}
 

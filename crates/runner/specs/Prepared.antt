@@ -6,7 +6,7 @@ use mathlib.Core.List.{List}
 use Prim.Native.Nat.{ℕ, _+_, _*_, _<_, _≤_}
 use lib.ListN.{length, getD, take, drop}
 use Rattle.lists.specs.Lists.{allL}
-use Rattle.rules.specs.Graph.{Graph, stateOf}
+use Rattle.graph_rules.specs.Graph.{Graph, stateOf}
 use Rattle.classes.specs.Classes.{Class, Comparison, comparisons, cost}
 use Rattle.classes.specs.ClassAnswers.{listed}
 use Rattle.edges.specs.Edges.{classTo, targets}

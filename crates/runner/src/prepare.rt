@@ -6,7 +6,7 @@ ghost use Prim.Native.Nat.{ℕ, _+_, _*_, _<_, _≤_};
 ghost use lib.ListN.{length, getD};
 ghost use lib.Seq.{sets};
 ghost use Rattle.classes.specs.Classes.{comparisons, cost};
-ghost use Rattle.rules.specs.Graph.{stateOf, graphFits, graphFrom};
+ghost use Rattle.graph_rules.specs.Graph.{stateOf, graphFits, graphFrom};
 ghost use Rattle.edges.specs.Edges.{classTo};
 ghost use Rattle.runner.specs.Prepared.{testsAt, Prepared};
 use classes::byte_class::Comparisons;
@@ -76,7 +76,7 @@ pub fn prepare(graph: &[u16], ends: &mut [u16], tests: &mut [u8])
 {
     let n = graph[0] as usize;
     for s in 0..n {
-        let fork = choices::fork::fork_at(graph, s);
+        let fork = plan_rows::fork::fork_at(graph, s);
         let at = 2 * s;
         ends[at] = fork.low as u16;
         ends[at + 1] = fork.high as u16;

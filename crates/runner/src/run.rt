@@ -4,8 +4,8 @@ ghost use mathlib.Core.Bool.{true};
 ghost use mathlib.Core.Option.{none};
 ghost use Prim.Native.Nat.{suc, _+_, _*_, _≤_, _<_};
 ghost use lib.ListN.{length, getD};
-ghost use Rattle.rules.specs.Graph.{graphFits, graphFrom, to, acceptOf};
-ghost use Rattle.rules.specs.Read.{late, onward};
+ghost use Rattle.graph_rules.specs.Graph.{graphFits, graphFrom, to, acceptOf};
+ghost use Rattle.graph_rules.specs.Read.{late, onward};
 ghost use Rattle.readings.specs.Answers.{recorded};
 ghost use Rattle.plan_rules.specs.Plan.{base, planSize};
 ghost use Rattle.plan_rules.specs.Run.{runFrom, rowsOf};
@@ -23,7 +23,7 @@ fn ended(graph: &[u16], s: usize, k: usize, r: Record) -> Record
         return r;
     }
     let marks = words::graph::word(graph, target, 257);
-    readings::read::left(marks % 256, k, r)
+    readings::read::accept_at_end(marks % 256, k, r)
 }
 
 // The last record of the run.
@@ -51,11 +51,11 @@ pub fn run(
         // the self run first, so that the marks are read where it ends
         let j = crate::self_run::passed(plan, tables, s, text, k);
         let marks = words::graph::word(graph, s, 257);
-        r = readings::read::entered(marks, j, r);
+        r = readings::read::mark_at(marks, j, r);
         if j == text.len() {
             return ended(graph, s, j, r);
         }
-        let t = crate::led::led_on(graph, plan, tables, ends, tests, s, text[j]);
+        let t = crate::step::step(graph, plan, tables, ends, tests, s, text[j]);
         if t == 65535 {
             return r;
         }

@@ -8,9 +8,9 @@ use native.Mathlib.Nat.{eq-or-lt-of-le}
 use native.Mathlib.Omega.{arith}
 use lib.ListN.{length, drop}
 use Rattle.lists.proofs.Bools.{Is, is, yes-is, no-is}
-use Rattle.rules.specs.Graph.{Graph, graphFrom, graphFits}
-use Rattle.rules.specs.Read.{readGraph}
-use Rattle.scans.specs.declared.scan.Answer.{Answer}
+use Rattle.graph_rules.specs.Graph.{Graph, graphFrom, graphFits}
+use Rattle.graph_rules.specs.Read.{readGraph}
+use Rattle.scans.specs.declared.scan.NextAnswer.{NextAnswer}
 use Rattle.scans.specs.declared.scan.Entry.{Entry}
 use Rattle.scans.specs.declared.scan.Scan.{Scan}
 use Rattle.scans.specs.declared.scan.Scanned.{Scanned}

@@ -8,11 +8,11 @@ use native.Mathlib.Omega.{arith}
 use borrow.Author.Tests.{eq-eqb, ne-eqb, lt-ltb, le-ltb}
 use lib.ListN.{length, take, drop, length-drop}
 use lib.Seq.{take-all}
-use Rattle.rules.specs.Graph.{Graph, graphFrom, graphFits}
-use Rattle.rules.specs.Read.{Found, Reading, readGraph}
+use Rattle.graph_rules.specs.Graph.{Graph, graphFrom, graphFits}
+use Rattle.graph_rules.specs.Read.{Found, Reading, readGraph}
 use Rattle.readings.specs.Answers.{recorded}
 use Rattle.readings.proofs.Turn.{recorded-none, recorded-some}
-use Rattle.scans.specs.declared.scan.Answer.the-variants.{Token, Gap, Ended, Refused}
+use Rattle.scans.specs.declared.scan.NextAnswer.the-variants.{Token, Gap, Ended, Refused}
 use Rattle.scans.specs.declared.scan.Entry.{Entry}
 use Rattle.scans.specs.declared.scan.Place.{Place}
 use Rattle.scans.specs.declared.scan.Place.the-variants.{Reading as ReadingAt, Ended as HasEnded}

@@ -10,9 +10,9 @@ use lib.ListN.{length, drop, set, length-append}
 use lib.Seq.{sets}
 use Rattle.lists.proofs.Bools.{Is, is, yes-is, no-is}
 use Rattle.lists.proofs.Buffers.{Filled, filled-none, filled-run}
-use Rattle.rules.specs.Graph.{Graph}
-use Rattle.rules.specs.Read.{readGraph}
-use Rattle.scans.specs.declared.scan.Answer.{Answer}
+use Rattle.graph_rules.specs.Graph.{Graph}
+use Rattle.graph_rules.specs.Read.{readGraph}
+use Rattle.scans.specs.declared.scan.NextAnswer.{NextAnswer}
 use Rattle.scans.specs.declared.scan.Entry.{Entry}
 use Rattle.scans.specs.declared.scan.Scanned.{Scanned}
 use Rattle.scans.specs.declared.scan.Scan.{Scan}

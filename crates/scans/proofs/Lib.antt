@@ -3,4 +3,4 @@ pub mod Entries
 pub mod Filling
 pub mod ListAnswers
 pub mod EndToEnd
-pub mod Told
+pub mod Report

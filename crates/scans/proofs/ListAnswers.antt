@@ -4,8 +4,8 @@ use mathlib.Core.Bool.{true, false}
 use mathlib.Core.List.{List}
 use Prim.Native.Nat.{ℕ, _≤_, _<_, _/_}
 use lib.ListN.{length}
-use Rattle.rules.specs.Graph.{Graph, graphFrom, graphFits}
-use Rattle.scans.specs.declared.scan.Answer.{Answer}
+use Rattle.graph_rules.specs.Graph.{Graph, graphFrom, graphFits}
+use Rattle.scans.specs.declared.scan.NextAnswer.{NextAnswer}
 use Rattle.scans.specs.declared.scan.Scan.{Scan}
 use Rattle.scans.specs.declared.scan.Scanned.{Scanned}
 use Rattle.scans.specs.declared.scan.Place.{Place}

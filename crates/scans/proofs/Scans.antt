@@ -9,9 +9,9 @@ use borrow.Author.Tests.{eqb-true, eqb-false, ltb-true}
 use lib.Dec.{eqb, ltb}
 use lib.ListN.{length, drop, length-drop}
 use Rattle.lists.proofs.Bools.{Is, yes-is, no-is, is}
-use Rattle.rules.specs.Graph.{Graph, to, acceptOf, earlyOf, graphFrom, graphFits}
-use Rattle.rules.specs.Read.{Found, Reading, mark, late, onward, walk, graphWalker, readGraph}
-use Rattle.scans.specs.declared.scan.Answer.the-variants.{Token, Gap, Ended}
+use Rattle.graph_rules.specs.Graph.{Graph, to, acceptOf, earlyOf, graphFrom, graphFits}
+use Rattle.graph_rules.specs.Read.{Found, Reading, mark, late, onward, walk, graphWalker, readGraph}
+use Rattle.scans.specs.declared.scan.NextAnswer.the-variants.{Token, Gap, Ended}
 use Rattle.scans.specs.declared.scan.Entry.{Entry}
 use Rattle.scans.specs.declared.scan.Scanned.{Scanned}
 use Rattle.scans.specs.Scan.{readingAt, hasEnded, gapLength, gapAt, entryOf, scannedBy, scanFrom, scanAt, scanOf, next}

@@ -1,3 +1,3 @@
 pub mod Scan
 pub mod List
-pub mod Told
+pub mod Report

@@ -3,11 +3,11 @@ use mathlib.Core.Bool.{true, false, cond}
 use mathlib.Core.List.{List, [], _∷_, _++_, flatMap}
 use Prim.Native.Nat.{ℕ, zero, suc, _/_, _<_}
 use lib.ListN.{length, drop}
-use Rattle.lists.specs.Told.{Told, telling, refusing}
-use Rattle.rules.specs.Graph.{Graph, graphFrom, graphFits}
+use Rattle.lists.specs.Report.{Report, reporting, refusing}
+use Rattle.graph_rules.specs.Graph.{Graph, graphFrom, graphFits}
 use Rattle.scans.specs.declared.scan.Scan.{Scan}
-use Rattle.scans.specs.declared.scan.Answer.{Answer}
-use Rattle.scans.specs.declared.scan.Answer.the-variants.{Token, Gap, Ended, Refused}
+use Rattle.scans.specs.declared.scan.NextAnswer.{NextAnswer}
+use Rattle.scans.specs.declared.scan.NextAnswer.the-variants.{Token, Gap, Ended, Refused}
 use Rattle.scans.specs.declared.scan.Entry.{Entry}
 use Rattle.scans.specs.declared.list.ListAnswer.{ListAnswer}
 use Rattle.scans.specs.declared.list.ListAnswer.the-variants.{Listed as Entries, Refused as NoList}
@@ -15,7 +15,7 @@ use Rattle.scans.specs.declared.list.Listed.{Listed}
 use Rattle.scans.specs.Scan.{readingAt, scanOf, next}
 
 -- the words of an entry: start, end, and leaf or 65,535
-abbrev pub entryWords : Answer → List ℕ
+abbrev pub entryWords : NextAnswer → List ℕ
 entryWords (Token leaf start end) = start ∷ end ∷ leaf ∷ []
 entryWords (Gap start end) = start ∷ end ∷ 65535 ∷ []
 entryWords Ended = []
@@ -27,14 +27,14 @@ leafWord e = cond (e .token) (e .leaf) 65535
 
 -- entries, and the scan after them
 pub record Listing : Type 0 where
-  pub entries : List Answer
+  pub entries : List NextAnswer
   pub scan : Scan
 
-abbrev pub oneMore : Answer → Listing → Listing
+abbrev pub oneMore : NextAnswer → Listing → Listing
 oneMore a l = record { entries = a ∷ l .entries; scan = l .scan }
 
 -- after an answer that is a token or a gap the calls go on
-abbrev pub goOn : (Scan → Listing) → Answer → Scan → Listing
+abbrev pub goOn : (Scan → Listing) → NextAnswer → Scan → Listing
 goOn more (Token leaf start end) scan = oneMore (Token leaf start end) (more scan)
 goOn more (Gap start end) scan = oneMore (Gap start end) (more scan)
 goOn more Ended scan = record { entries = []; scan = scan }
@@ -51,10 +51,10 @@ callsFor graph text zero scan = record { entries = []; scan = scan }
 callsFor graph text (suc k) scan = let a = next graph text scan in goOn (λ s. callsFor graph text k s) (a .answer) (a .scan)
 
 -- tokens and gaps that run end to end from a to b, none of them empty
-pub data EndToEnd : ℕ → ℕ → List Answer → Type 0 where
+pub data EndToEnd : ℕ → ℕ → List NextAnswer → Type 0 where
   no-more : {a : ℕ} → EndToEnd a a []
-  token-first : {a e b leaf : ℕ} {rest : List Answer} → a < e → EndToEnd e b rest → EndToEnd a b (Token leaf a e ∷ rest)
-  gap-first : {a e b : ℕ} {rest : List Answer} → a < e → EndToEnd e b rest → EndToEnd a b (Gap a e ∷ rest)
+  token-first : {a e b leaf : ℕ} {rest : List NextAnswer} → a < e → EndToEnd e b rest → EndToEnd a b (Token leaf a e ∷ rest)
+  gap-first : {a e b : ℕ} {rest : List NextAnswer} → a < e → EndToEnd e b rest → EndToEnd a b (Gap a e ∷ rest)
 
 unfoldable pub listWords : Listing → List ℕ
 listWords l = flatMap entryWords (l .entries)
@@ -69,9 +69,9 @@ pub record ScanList : Type 0 where
   pub buffer : List ℕ
 
 -- in document 01's numbers: the number of entries
-abbrev pub listTold : ListAnswer → Told
-listTold (Entries n) = telling (n ∷ [])
-listTold (NoList n) = refusing n 1
+abbrev pub listReport : ListAnswer → Report
+listReport (Entries n) = reporting (n ∷ [])
+listReport (NoList n) = refusing n 1
 
 abbrev pub noList : ℕ → Scan → List ℕ → ScanList
 noList n scan buffer = record { listed = record { answer = NoList n; scan = scan }; buffer = buffer }
@@ -83,7 +83,7 @@ someList l buffer = record { listed = listedBy l; buffer = listWords l ++ drop (
 unfoldable pub listFrom : List ℕ → List ℕ → ℕ → List ℕ → ScanList
 listFrom graph text from buffer = someList (listFor (graphFrom graph) text (length buffer / 3) (readingAt from)) buffer
 
-abbrev pub unlessRefused : Answer → Scan → List ℕ → Listing → ScanList
+abbrev pub unlessRefused : NextAnswer → Scan → List ℕ → Listing → ScanList
 unlessRefused (Token leaf start end) scan buffer l = someList l buffer
 unlessRefused (Gap start end) scan buffer l = someList l buffer
 unlessRefused Ended scan buffer l = someList l buffer

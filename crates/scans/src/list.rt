@@ -3,7 +3,7 @@ ghost use mathlib.Core.Path.{_≡_};
 ghost use mathlib.Core.Bool.{true};
 ghost use Prim.Native.Nat.{_+_, _*_, _/_, _<_, _≤_};
 ghost use lib.ListN.{length, set};
-ghost use Rattle.rules.specs.Graph.{graphFits};
+ghost use Rattle.graph_rules.specs.Graph.{graphFits};
 ghost use Rattle.scans.specs.List.{leafWord, listFrom, scanList};
 use crate::scan::Entry;
 use crate::scan::Place;

@@ -3,8 +3,8 @@ ghost use mathlib.Core.Path.{_≡_};
 ghost use mathlib.Core.Bool.{true};
 ghost use Prim.Native.Nat.{_+_, _<_, _≤_};
 ghost use lib.ListN.{length, drop};
-ghost use Rattle.rules.specs.Graph.{graphFits, graphFrom};
-ghost use Rattle.rules.specs.Read.{readGraph};
+ghost use Rattle.graph_rules.specs.Graph.{graphFits, graphFrom};
+ghost use Rattle.graph_rules.specs.Read.{readGraph};
 ghost use Rattle.readings.specs.Answers.{recorded};
 ghost use Rattle.scans.specs.Scan.{fresh, gapAt, entryOf, scannedBy, scanOf, next};
 use readings::read::Record;
@@ -19,7 +19,7 @@ pub struct Scan {
 }
 
 // A token (leaf, start, end) or a gap (start, end); or that the scan has ended; or the number of a refusal.
-pub enum Answer {
+pub enum NextAnswer {
     Token(usize, usize, usize),
     Gap(usize, usize),
     Ended,
@@ -28,7 +28,7 @@ pub enum Answer {
 
 // An answer, and the scan after it.
 pub struct Scanned {
-    pub answer: Answer,
+    pub answer: NextAnswer,
     pub scan: Scan,
 }
 
@@ -91,12 +91,12 @@ fn scanned_by(at: usize, e: Entry) -> Scanned
     };
     if e.token {
         return Scanned {
-            answer: Answer::Token(e.leaf, at, e.end),
+            answer: NextAnswer::Token(e.leaf, at, e.end),
             scan: next,
         };
     }
     Scanned {
-        answer: Answer::Gap(at, e.end),
+        answer: NextAnswer::Gap(at, e.end),
         scan: next,
     }
 }
@@ -111,13 +111,13 @@ pub fn step(scan: Scan, graph: &[u16], text: &[u8]) -> Scanned
         Place::Reading(at) => {
             if text.len() < at {
                 return Scanned {
-                    answer: Answer::Refused(14),
+                    answer: NextAnswer::Refused(14),
                     scan: scan,
                 };
             }
             if at == text.len() {
                 return Scanned {
-                    answer: Answer::Ended,
+                    answer: NextAnswer::Ended,
                     scan: Scan {
                         place: Place::Ended,
                     },
@@ -126,7 +126,7 @@ pub fn step(scan: Scan, graph: &[u16], text: &[u8]) -> Scanned
             scanned_by(at, read_entry(graph, text, at))
         }
         Place::Ended => Scanned {
-            answer: Answer::Refused(16),
+            answer: NextAnswer::Refused(16),
             scan: scan,
         },
     }
@@ -148,7 +148,7 @@ impl Scan {
     {
         if !words::graph::fits(graph) {
             return Scanned {
-                answer: Answer::Refused(12),
+                answer: NextAnswer::Refused(12),
                 scan: self,
             };
         }

@@ -9,11 +9,11 @@ use native.Mathlib.Omega.{arith}
 use lib.ListN.{length, getD, take, drop, length-drop, replicate, take-append-drop, getD-replicate, replicate-append-replicate, List·getD-append}
 use lib.Seq.{ext-getD, length-take-le, getD-take, getD-drop, getD-append-add, drop-at}
 use Rattle.lists.proofs.Bools.{lt-or-le}
-use Rattle.rules.specs.Graph.{Graph, to, acceptOf, earlyOf, graphFrom, graphFits, graphWords, graphBuffer}
-use Rattle.rules.proofs.Fits.{Fits}
-use Rattle.rules.proofs.Flat.{target-word, marks-word, from-length}
-use Rattle.rules.proofs.Taken.{taken-long, taken-few}
-use Rattle.rules.proofs.Words.{words-length, buffer-length, words-taken, graph-back}
+use Rattle.graph_rules.specs.Graph.{Graph, to, acceptOf, earlyOf, graphFrom, graphFits, graphWords, graphBuffer}
+use Rattle.graph_rules.proofs.Fits.{Fits}
+use Rattle.graph_rules.proofs.Flat.{target-word, marks-word, from-length}
+use Rattle.graph_rules.proofs.Taken.{taken-long, taken-few}
+use Rattle.graph_rules.proofs.Words.{words-length, buffer-length, words-taken, graph-back}
 use Rattle.words.proofs.GraphWords.{target-is, accept-is, early-is, taken-fits}
 
 -- ---- words that are the same from some place on

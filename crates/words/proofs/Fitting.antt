@@ -12,7 +12,7 @@ use Rattle.lists.specs.Lists.{allL, pieces}
 use Rattle.lists.proofs.Bools.{and-right-false, or-false}
 use Rattle.lists.proofs.Elements.{all-intro, all-false}
 use Rattle.lists.proofs.Pieces.{pieces-length, pieces-width, piece-word}
-use Rattle.rules.specs.Graph.{targetFits, rowFits, rootFits, graphFits}
+use Rattle.graph_rules.specs.Graph.{targetFits, rowFits, rootFits, graphFits}
 
 module _ (w : List ℕ) (n : ℕ) (long : 2 + 258 * n ≤ length w) where
   abbrev rows : List (List ℕ)

@@ -14,12 +14,12 @@ use Rattle.lists.specs.Lists.{allL, pieces, eqOption}
 use Rattle.lists.proofs.Bools.{Is, is, yes-is, no-is, none-some, lt-or-le, and-intro, or-left, or-right}
 use Rattle.lists.proofs.Elements.{all-intro, option-sound}
 use Rattle.lists.proofs.Pieces.{pieces-length, piece-word}
-use Rattle.rules.specs.Graph.{Graph, stateOf, to, acceptOf, earlyOf, orNone, graphFrom, graphFits}
-use Rattle.rules.proofs.Fits.{Fits, Root}
-use Rattle.rules.proofs.Flat.{from-to, from-accept, from-early, piece-length, from-length, from-width}
-use Rattle.rules.proofs.Taken.{taken-long, taken-few, taken-root, taken-target}
-use Rattle.rules.proofs.Views.{edge-within, out-accept, out-early}
-use Rattle.rules.proofs.Nones.{or-word, or-some, word-inj}
+use Rattle.graph_rules.specs.Graph.{Graph, stateOf, to, acceptOf, earlyOf, orNone, graphFrom, graphFits}
+use Rattle.graph_rules.proofs.Fits.{Fits, Root}
+use Rattle.graph_rules.proofs.Flat.{from-to, from-accept, from-early, piece-length, from-length, from-width}
+use Rattle.graph_rules.proofs.Taken.{taken-long, taken-few, taken-root, taken-target}
+use Rattle.graph_rules.proofs.Views.{edge-within, out-accept, out-early}
+use Rattle.graph_rules.proofs.Nones.{or-word, or-some, word-inj}
 
 -- ---- taken, from the words
 

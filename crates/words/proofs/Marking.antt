@@ -10,9 +10,9 @@ use native.Mathlib.Omega.{arith}
 use borrow.Author.Count.{below-more}
 use lib.ListN.{length, getD, set, drop, length-set}
 use lib.Seq.{getD-set-same, getD-set-other}
-use Rattle.rules.specs.Graph.{Graph, to, acceptOf, earlyOf, graphFrom, graphFits, graphBuffer}
-use Rattle.rules.proofs.Fits.{Fits}
-use Rattle.rules.proofs.Taken.{taken-long, taken-few, taken-root, taken-target}
+use Rattle.graph_rules.specs.Graph.{Graph, to, acceptOf, earlyOf, graphFrom, graphFits, graphBuffer}
+use Rattle.graph_rules.proofs.Fits.{Fits}
+use Rattle.graph_rules.proofs.Taken.{taken-long, taken-few, taken-root, taken-target}
 use Rattle.words.proofs.GraphWords.{words-fit, target-is}
 use Rattle.words.proofs.Buffers.{same-after, written}
 

@@ -5,7 +5,7 @@ ghost use mathlib.Core.List.{[], _∷_};
 ghost use lib.ListN.{length, getD, drop};
 ghost use lib.Seq.{sets};
 ghost use Rattle.lists.specs.Lists.{allL, pieces};
-ghost use Rattle.rules.specs.Graph.{targetFits, rowFits, graphFits};
+ghost use Rattle.graph_rules.specs.Graph.{targetFits, rowFits, graphFits};
 ghost use Rattle.words.specs.Places.{graphPlace};
 
 // The place of word c of state s: a byte's target, at 256 the end target, at 257 the marks.

@@ -7,7 +7,7 @@ ghost use mathlib.Core.Option.{Option·getD};
 ghost use Prim.Native.Nat.{_<_, _≤_};
 ghost use lib.ListN.{getD};
 ghost use Rattle.words.specs.Places.{graphPlace};
-ghost use Rattle.rules.specs.Graph.{graphFits, graphFrom, to, acceptOf, earlyOf};
+ghost use Rattle.graph_rules.specs.Graph.{graphFits, graphFrom, to, acceptOf, earlyOf};
 
 // Word c of state s.
 pub fn word_of(graph: &[u16], s: usize, c: usize) -> usize

@@ -4,7 +4,7 @@ use Prim.Native.Nat.{ℕ, _+_, _≤_, _<_, _-_}
 use native.Mathlib.Omega.{arith}
 use borrow.Author.Count.{below-more}
 use lib.ListN.{getD}
-use Rattle.rules.specs.Graph.{orNone}
+use Rattle.graph_rules.specs.Graph.{orNone}
 use Rattle.words.specs.Places.{rowPlace}
 use Rattle.leaves.proofs.Records.{sizes}
 use Rattle.clean.proofs.Rows.{by-low, bytes-same, bytes-differ}

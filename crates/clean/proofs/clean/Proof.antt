@@ -6,9 +6,9 @@ use native.Mathlib.Omega.{arith}
 use borrow.Author.Needs.{needs}
 use lib.ListN.{length}
 use Rattle.lists.proofs.Elements.{length-nil}
-use Rattle.rules.specs.Table.{tableOf, refusal}
-use Rattle.rules.specs.Build.{emptyLeaves}
-use Rattle.rules.proofs.Shape.{refusal-small, start-none, start-some}
+use Rattle.graph_rules.specs.Table.{tableOf, refusal}
+use Rattle.graph_rules.specs.Build.{emptyLeaves}
+use Rattle.graph_rules.proofs.Shape.{refusal-small, start-none, start-some}
 use Rattle.leaves.proofs.Records.{sizes}
 use Rattle.clean.specs.Answers.{verdict}
 use Rattle.clean.proofs.Breaches.{error-no-start, error-empty, breaks-first, clean-refused, clean-answered}

@@ -3,11 +3,11 @@ use mathlib.Core.Path.{_≡_, sym, ap, _∙_}
 use native.Mathlib.Omega.{arith}
 use borrow.Author.Needs.{needs}
 use borrow.Author.Tests.{not-true, not-false}
-use Rattle.rules.specs.Table.{tableOf}
-use Rattle.rules.specs.Graph.{orNone}
-use Rattle.rules.specs.Clean.{errorAt, endAt}
-use Rattle.rules.proofs.Nones.{or-none, or-number}
-use Rattle.rules.proofs.Shape.{legal-start, size-is}
+use Rattle.graph_rules.specs.Table.{tableOf}
+use Rattle.graph_rules.specs.Graph.{orNone}
+use Rattle.graph_rules.specs.Clean.{errorAt, endAt}
+use Rattle.graph_rules.proofs.Nones.{or-none, or-number}
+use Rattle.graph_rules.proofs.Shape.{legal-start, size-is}
 use Rattle.clean.specs.Answers.{verdict}
 use Rattle.clean.proofs.Breaches.{error-found, end-found, breaks-first, breaks-second, breaks-third, breaks-none}
 use Rattle.clean.proofs.judged.Statement.{statement}

@@ -5,10 +5,10 @@ use native.Mathlib.Omega.{arith}
 use borrow.Author.Count.{below-none, below-more}
 use lib.ListN.{length, getD, length-set, length-replicate}
 use lib.Seq.{getD-set-same, getD-set-other}
-use Rattle.rules.specs.Table.{tableOf}
-use Rattle.rules.specs.Graph.{orNone}
-use Rattle.rules.specs.Build.{leafOf}
-use Rattle.rules.proofs.LeafWords.{leaf-back, leaf-low}
+use Rattle.graph_rules.specs.Table.{tableOf}
+use Rattle.graph_rules.specs.Graph.{orNone}
+use Rattle.graph_rules.specs.Build.{leafOf}
+use Rattle.graph_rules.proofs.LeafWords.{leaf-back, leaf-low}
 use Rattle.leaves.proofs.Records.{sizes}
 use Rattle.clean.proofs.leaves_of.Statement.{statement}
 use Rattle.clean.proofs.leaves_of.Tie as tie

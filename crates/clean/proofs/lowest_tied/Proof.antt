@@ -1,8 +1,8 @@
 -- What is found is the lowest of the tied states of the set from s on (`Lowest`). The measure is s. Assumes nothing.
 use mathlib.Core.Path.{sym, subst, _∙_}
 use native.Mathlib.Omega.{arith}
-use Rattle.rules.specs.Table.{tableOf}
-use Rattle.rules.specs.Clean.{tied}
+use Rattle.graph_rules.specs.Table.{tableOf}
+use Rattle.graph_rules.specs.Clean.{tied}
 use Rattle.leaves.proofs.Records.{sizes}
 use Rattle.clean.proofs.Lowest.{Lowest, nothing-found, lowest-out, lowest-fails, lowest-passes, lowest-found}
 use Rattle.clean.proofs.lowest_tied.Statement.{statement}

@@ -1,9 +1,9 @@
 -- A leaf: no tie. No leaf, and a chain: a tie. Assumes nothing.
 use mathlib.Core.Path.{sym, _∙_}
 use native.Mathlib.Omega.{arith}
-use Rattle.rules.specs.Table.{tableOf}
+use Rattle.graph_rules.specs.Table.{tableOf}
 use Rattle.leaves.proofs.Records.{sizes}
-use Rattle.rules.proofs.Nones.{or-none, or-number}
+use Rattle.graph_rules.proofs.Nones.{or-none, or-number}
 use Rattle.clean.proofs.Ties.{tied-leaf, tied-head}
 use borrow.Author.Needs.{needs}
 use Rattle.clean.proofs.tied.Statement.{statement}

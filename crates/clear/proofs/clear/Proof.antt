@@ -10,12 +10,12 @@ use native.Mathlib.Omega.{arith}
 use borrow.Author.Tests.{not-true, not-false}
 use lib.ListN.{getD, set}
 use Rattle.lists.proofs.Bools.{Is, is, yes-is, no-is}
-use Rattle.rules.specs.Graph.{Graph, State, graphFits, graphFrom, acceptOf, earlyOf}
-use Rattle.rules.specs.Build.{covered, cleared, withCleared}
-use Rattle.rules.proofs.Fits.{cleared-fits}
-use Rattle.rules.proofs.Marks.{cleared-length, cleared-to, cleared-state, cleared-early}
-use Rattle.rules.proofs.Taken.{taken-few, taken-long}
-use Rattle.rules.proofs.Flat.{from-length}
+use Rattle.graph_rules.specs.Graph.{Graph, State, graphFits, graphFrom, acceptOf, earlyOf}
+use Rattle.graph_rules.specs.Build.{covered, cleared, withCleared}
+use Rattle.graph_rules.proofs.Fits.{cleared-fits}
+use Rattle.graph_rules.proofs.Marks.{cleared-length, cleared-to, cleared-state, cleared-early}
+use Rattle.graph_rules.proofs.Taken.{taken-few, taken-long}
+use Rattle.graph_rules.proofs.Flat.{from-length}
 use Rattle.words.proofs.GraphWords.{accept-is, early-is, taken-fits}
 use Rattle.clear.proofs.Parents.{uncovered-at}
 use Rattle.words.proofs.Marking.{Marked, marked-none, marked-more, marked-keep, marked-count, marked-later, marked-fits, marked-all}

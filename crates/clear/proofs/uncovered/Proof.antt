@@ -10,9 +10,9 @@ use borrow.Author.Tests.{eqb-true, eqb-false, not-true, not-false}
 use lib.ListN.{getD}
 use Rattle.lists.specs.Lists.{eqOption}
 use Rattle.lists.proofs.Bools.{none-some, some-inj}
-use Rattle.rules.specs.Graph.{Graph, graphFrom, to, acceptOf, earlyOf}
-use Rattle.rules.proofs.Taken.{taken-few, taken-long}
-use Rattle.rules.proofs.Flat.{from-length}
+use Rattle.graph_rules.specs.Graph.{Graph, graphFrom, to, acceptOf, earlyOf}
+use Rattle.graph_rules.proofs.Taken.{taken-few, taken-long}
+use Rattle.graph_rules.proofs.Flat.{from-length}
 use Rattle.words.proofs.GraphWords.{from-edge, edge-none, edge-some, leaves-agree, leaves-differ}
 use Rattle.clear.proofs.Parents.{Passed, passed-none, passed-skip, passed-mark, passed-row, passed-all}
 use Rattle.clear.proofs.uncovered.Statement.{statement}

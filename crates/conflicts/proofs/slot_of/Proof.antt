@@ -2,7 +2,7 @@
 use mathlib.Core.Path.{sym, _∙_}
 use Prim.Native.Nat.{_+_, _-_, _/_}
 use native.Mathlib.Omega.{arith}
-use Rattle.rules.specs.Table.{tableOf}
+use Rattle.graph_rules.specs.Table.{tableOf}
 use Rattle.leaves.specs.Chains.{tieFrom}
 use Rattle.leaves.proofs.Records.{sizes}
 use Rattle.conflicts.proofs.Slotted.{Between, between-all, between-low, between-high, between-slot}

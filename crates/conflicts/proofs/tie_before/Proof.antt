@@ -4,7 +4,7 @@ use Prim.Native.Nat.{ℕ, _≤_}
 use native.Mathlib.Omega.{arith}
 use lib.ListN.{getD}
 use Rattle.lists.specs.Lists.{before}
-use Rattle.rules.specs.Table.{tableOf}
+use Rattle.graph_rules.specs.Table.{tableOf}
 use Rattle.leaves.specs.Chains.{tieFrom}
 use Rattle.conflicts.proofs.Slotted.{none-before, before-none, less-before, more-before, equal-before}
 use Rattle.conflicts.proofs.tie_before.Statement.{statement}

@@ -3,7 +3,7 @@ use mathlib.Core.Path.{_≡_, ap, _∙_}
 use Prim.Native.Nat.{_+_, _≤_}
 use native.Mathlib.Omega.{arith}
 use lib.ListN.{length, getD}
-use Rattle.rules.specs.Table.{tableOf}
+use Rattle.graph_rules.specs.Table.{tableOf}
 use Rattle.leaves.specs.Chains.{tieFrom}
 use Rattle.leaves.proofs.Contenders.{tie-end, tie-step}
 use Rattle.conflicts.proofs.Ascents.{tie-few}

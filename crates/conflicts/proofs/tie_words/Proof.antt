@@ -2,7 +2,7 @@
 use mathlib.Core.Path.{_≡_, sym, subst, _∙_}
 use Prim.Native.Nat.{ℕ}
 use native.Mathlib.Omega.{arith}
-use Rattle.rules.specs.Table.{tableOf}
+use Rattle.graph_rules.specs.Table.{tableOf}
 use Rattle.leaves.specs.Chains.{tieFrom}
 use Rattle.leaves.proofs.Records.{sizes}
 use Rattle.conflicts.proofs.Conflicts.{Counted, counted-none, counted-pass, counted-more, down-free, down-tied, ties-number, ties-words}

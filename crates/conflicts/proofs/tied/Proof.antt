@@ -2,7 +2,7 @@
 use mathlib.Core.Path.{sym, ap, _∙_}
 use native.Mathlib.Omega.{arith}
 use borrow.Author.Tests.{not-true, not-false}
-use Rattle.rules.specs.Table.{tableOf}
+use Rattle.graph_rules.specs.Table.{tableOf}
 use Rattle.leaves.specs.Chains.{nextTied}
 use Rattle.leaves.proofs.Records.{sizes}
 use Rattle.conflicts.proofs.Conflicts.{tied-out, tied-none, tied-one, tied-two}

@@ -7,9 +7,9 @@ use native.Mathlib.Numerals.{add-one, add-two}
 use native.Mathlib.Omega.{arith}
 use lib.ListN.{length, getD, set, length-set}
 use Rattle.lists.proofs.Runs.{Underway, run-begun, run-more, run-room}
-use Rattle.rules.specs.Table.{tableOf, leafAt}
-use Rattle.rules.specs.Build.{emptyMatch, errorWords}
-use Rattle.rules.proofs.Flat.{empty-word}
+use Rattle.graph_rules.specs.Table.{tableOf, leafAt}
+use Rattle.graph_rules.specs.Build.{emptyMatch, errorWords}
+use Rattle.graph_rules.proofs.Flat.{empty-word}
 use Rattle.leaves.proofs.Records.{sizes}
 use Rattle.conflicts.proofs.Listing.{run-listed, emptiesOn, emptyWords, empties-yes, empties-no, empties-over, empties-all}
 use Rattle.conflicts.proofs.write_empty.Statement.{statement}

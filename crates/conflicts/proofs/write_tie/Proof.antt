@@ -7,7 +7,7 @@ use native.Mathlib.Omega.{arith}
 use lib.ListN.{length, getD, set, length-set}
 use lib.Seq.{sets}
 use Rattle.lists.proofs.Runs.{Underway, run-begun, run-one, run-room}
-use Rattle.rules.specs.Table.{tableOf}
+use Rattle.graph_rules.specs.Table.{tableOf}
 use Rattle.leaves.specs.Chains.{tieFrom}
 use Rattle.leaves.proofs.Records.{sizes}
 use Rattle.leaves.proofs.Contenders.{tie-end, tie-step}

@@ -5,8 +5,8 @@ use Prim.Native.Nat.{ℕ, _+_, _-_, _≤_}
 use native.Mathlib.Omega.{arith}
 use lib.ListN.{length, getD, take, drop, length-append}
 use Rattle.lists.proofs.Runs.{Underway, run-begun, run-more, run-room}
-use Rattle.rules.specs.Table.{tableOf}
-use Rattle.rules.specs.Build.{Error, disambiguation, errorWords}
+use Rattle.graph_rules.specs.Table.{tableOf}
+use Rattle.graph_rules.specs.Build.{Error, disambiguation, errorWords}
 use Rattle.leaves.specs.Chains.{tieFrom}
 use Rattle.leaves.proofs.Records.{sizes}
 use Rattle.conflicts.proofs.Listing.{tieWords, run-listed, ties-on, ties-over}

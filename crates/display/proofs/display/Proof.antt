@@ -4,8 +4,8 @@ use borrow.Author.Tests.{not-true, not-false}
 use mathlib.Core.Path.{_≡_, sym, _∙_}
 use mathlib.Core.Bool.{true}
 use native.Mathlib.Omega.{arith}
-use Rattle.rules.specs.Graph.{graphFrom, graphFits}
-use Rattle.rules.proofs.Taken.{taken-few}
+use Rattle.graph_rules.specs.Graph.{graphFrom, graphFits}
+use Rattle.graph_rules.proofs.Taken.{taken-few}
 use Rattle.display.specs.Display.{displayed}
 use Rattle.display.proofs.Sizes.{graph-size}
 use Rattle.display.proofs.Calls.{left-as, left-refused, left-short, left-written, display-refused, display-taken}

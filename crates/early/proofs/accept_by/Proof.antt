@@ -4,8 +4,8 @@ use mathlib.Core.Option.{Option, Option·getD}
 use Prim.Native.Nat.{ℕ}
 use native.Mathlib.Omega.{arith}
 use borrow.Author.Needs.{needs}
-use Rattle.rules.specs.Graph.{graphFrom}
-use Rattle.rules.specs.Build.{acceptBy}
+use Rattle.graph_rules.specs.Graph.{graphFrom}
+use Rattle.graph_rules.specs.Build.{acceptBy}
 use Rattle.words.proofs.GraphWords.{edge-none, edge-some}
 use Rattle.early.proofs.accept_by.Statement.{statement}
 use Rattle.early.proofs.accept_by.Tie as tie

@@ -9,12 +9,12 @@ use Prim.Native.Nat.{ℕ, _≤_, _<_, _-_, _+_, _*_, _%_}
 use native.Mathlib.Omega.{arith}
 use lib.ListN.{getD, set}
 use Rattle.lists.proofs.Bools.{lt-or-le}
-use Rattle.rules.specs.Graph.{graphFits, graphFrom}
-use Rattle.rules.specs.Build.{withEarly}
-use Rattle.rules.proofs.Fits.{early-fits}
-use Rattle.rules.proofs.Marks.{early-length, early-to, early-accept}
-use Rattle.rules.proofs.Taken.{taken-long}
-use Rattle.rules.proofs.Flat.{from-length}
+use Rattle.graph_rules.specs.Graph.{graphFits, graphFrom}
+use Rattle.graph_rules.specs.Build.{withEarly}
+use Rattle.graph_rules.proofs.Fits.{early-fits}
+use Rattle.graph_rules.proofs.Marks.{early-length, early-to, early-accept}
+use Rattle.graph_rules.proofs.Taken.{taken-long}
+use Rattle.graph_rules.proofs.Flat.{from-length}
 use Rattle.words.proofs.GraphWords.{accept-is, taken-fits}
 use Rattle.early.proofs.Children.{earlyLeaf, early-alike}
 use Rattle.words.proofs.Marking.{Marked, marked-none, marked-more, marked-count, marked-target, marked-later, marked-fits, marked-all}

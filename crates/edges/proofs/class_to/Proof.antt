@@ -3,9 +3,9 @@ use mathlib.Core.Path.{refl}
 use Prim.Native.Nat.{_-_, _<_}
 use native.Mathlib.Nat.{not-suc-le-zero}
 use native.Mathlib.Omega.{arith}
-use Rattle.rules.specs.Graph.{stateOf, graphFrom}
+use Rattle.graph_rules.specs.Graph.{stateOf, graphFrom}
 use Rattle.edges.specs.Edges.{classTo}
-use Rattle.rules.proofs.Taken.{taken-long, taken-few}
+use Rattle.graph_rules.proofs.Taken.{taken-long, taken-few}
 use Rattle.edges.proofs.Rows.{Filling, fill-more, filled}
 use Rattle.edges.proofs.class_to.Statement.{statement}
 use Rattle.edges.proofs.class_to.Tie as tie

@@ -4,8 +4,8 @@ use mathlib.Core.Bool.{false}
 use Prim.Native.Nat.{_-_}
 use native.Mathlib.Omega.{arith}
 use lib.ListN.{getD-replicate}
-use Rattle.rules.specs.Graph.{stateOf, graphFrom}
-use Rattle.rules.proofs.Taken.{taken-long, taken-few}
+use Rattle.graph_rules.specs.Graph.{stateOf, graphFrom}
+use Rattle.graph_rules.proofs.Taken.{taken-long, taken-few}
 use Rattle.edges.specs.Edges.{bytesOf}
 use Rattle.edges.proofs.Rows.{Marking, mark-more, mark-none, marked-all}
 use Rattle.edges.proofs.targets.Statement.{statement}

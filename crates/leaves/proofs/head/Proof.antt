@@ -3,7 +3,7 @@ use mathlib.Core.Path.{sym, ap, _∙_}
 use Prim.Native.Nat.{ℕ}
 use native.Mathlib.Omega.{arith}
 use lib.ListN.{getD}
-use Rattle.rules.proofs.Flat.{head-word}
+use Rattle.graph_rules.proofs.Flat.{head-word}
 use Rattle.words.specs.Places.{rowPlace}
 use Rattle.leaves.proofs.Records.{sizes, head-below}
 use Rattle.leaves.proofs.head.Statement.{statement}

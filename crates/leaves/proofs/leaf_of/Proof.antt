@@ -3,7 +3,7 @@ use mathlib.Core.Path.{_≡_, sym, ap, _∙_}
 use mathlib.Core.Option.{Option, Option·getD}
 use Prim.Native.Nat.{ℕ}
 use native.Mathlib.Omega.{arith}
-use Rattle.rules.specs.Table.{tableOf, matchOf}
+use Rattle.graph_rules.specs.Table.{tableOf, matchOf}
 use Rattle.leaves.specs.Chains.{nextTied}
 use Rattle.leaves.proofs.Contenders.{leaf-none, leaf-one, leaf-tied}
 use borrow.Author.Needs.{needs}

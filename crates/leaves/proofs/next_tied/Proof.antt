@@ -1,7 +1,7 @@
 -- The first record of this record's priority, from its next on. Assumes nothing.
 use mathlib.Core.Path.{ap₂, _∙_}
 use native.Mathlib.Omega.{arith}
-use Rattle.rules.specs.Table.{tableOf}
+use Rattle.graph_rules.specs.Table.{tableOf}
 use Rattle.leaves.specs.Chains.{firstWith, nextTied}
 use Rattle.leaves.proofs.Contenders.{next-tied-low}
 use borrow.Author.Needs.{needs}

@@ -2,8 +2,8 @@
 use mathlib.Core.Path.{sym, ap, ap₂, _∙_}
 use Prim.Native.Nat.{ℕ, _+_, _*_}
 use native.Mathlib.Omega.{arith}
-use Rattle.rules.specs.Table.{tableOf, leafAt}
-use Rattle.rules.proofs.Flat.{priority-word}
+use Rattle.graph_rules.specs.Table.{tableOf, leafAt}
+use Rattle.graph_rules.proofs.Flat.{priority-word}
 use Rattle.leaves.specs.Chains.{priorityAt}
 use Rattle.leaves.proofs.Records.{sizes}
 use borrow.Author.Needs.{needs}

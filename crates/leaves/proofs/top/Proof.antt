@@ -1,7 +1,7 @@
 -- The first record of the chain's highest priority. Assumes nothing.
 use mathlib.Core.Path.{ap₂, ap, _∙_}
 use native.Mathlib.Omega.{arith}
-use Rattle.rules.specs.Table.{tableOf}
+use Rattle.graph_rules.specs.Table.{tableOf}
 use Rattle.leaves.specs.Chains.{firstWith, highestFrom, topOf}
 use Rattle.leaves.proofs.Contenders.{top-low}
 use borrow.Author.Needs.{needs}

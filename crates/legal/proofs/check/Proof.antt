@@ -8,7 +8,7 @@ use native.Mathlib.Omega.{arith}
 use borrow.Author.Tests.{le-leb, lt-leb, le-ltb, eq-eqb, ne-eqb, not-true, not-false}
 use lib.ListN.{length, getD}
 use Rattle.lists.proofs.Bools.{and-right-false, and-intro}
-use Rattle.rules.specs.Table.{conditions, countsFit, emptiesFit, targetsFit, headsFit, recordsFit}
+use Rattle.graph_rules.specs.Table.{conditions, countsFit, emptiesFit, targetsFit, headsFit, recordsFit}
 use Rattle.words.specs.Places.{tableLength}
 use Rattle.legal.specs.Conditions.{states, leaves, records, Sized}
 use Rattle.legal.proofs.Legal.{Passed, passed-none, passed-more, refused, passed-all, counts-are, sized-means, start-pass}

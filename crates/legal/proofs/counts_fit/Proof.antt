@@ -1,6 +1,6 @@
 -- One test for each count. Assumes nothing.
 use borrow.Author.Tests.{le-leb, lt-leb}
-use Rattle.rules.specs.Table.{countsFit}
+use Rattle.graph_rules.specs.Table.{countsFit}
 use Rattle.legal.proofs.counts_fit.Statement.{statement}
 use Rattle.legal.proofs.counts_fit.Tie as tie
 

@@ -9,8 +9,8 @@ use native.Mathlib.Omega.{arith}
 use borrow.Author.Count.{below-more}
 use borrow.Author.Tests.{eqb-false, eqb-true, not-true, not-false}
 use lib.ListN.{getD}
-use Rattle.rules.specs.Graph.{stateOf, graphFrom}
-use Rattle.rules.proofs.Taken.{taken-few}
+use Rattle.graph_rules.specs.Graph.{stateOf, graphFrom}
+use Rattle.graph_rules.proofs.Taken.{taken-few}
 use Rattle.merge.proofs.Twins.{words-equal, equal-words}
 use Rattle.merge.proofs.first_equal.Statement.{statement}
 use Rattle.merge.proofs.first_equal.Tie as tie

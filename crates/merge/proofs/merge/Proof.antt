@@ -7,9 +7,9 @@ use Prim.Native.Nat.{ℕ, _+_, _*_, _≤_}
 use native.Mathlib.Omega.{arith}
 use borrow.Author.Tests.{not-true, not-false}
 use lib.ListN.{getD, drop}
-use Rattle.rules.specs.Graph.{graphBuffer, graphFrom}
-use Rattle.rules.specs.Build.{mergeRound, mergesNone}
-use Rattle.rules.proofs.Taken.{taken-few}
+use Rattle.graph_rules.specs.Graph.{graphBuffer, graphFrom}
+use Rattle.graph_rules.specs.Build.{mergeRound, mergesNone}
+use Rattle.graph_rules.proofs.Taken.{taken-few}
 use Rattle.merge.proofs.Rounds.{Merging, merging-none, merging-done, merging-less, merging-more}
 use Rattle.merge.proofs.merge.Statement.{statement}
 use Rattle.merge.proofs.merge.Tie as tie

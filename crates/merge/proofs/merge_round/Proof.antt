@@ -8,11 +8,11 @@ use borrow.Author.Needs.{needs}
 use borrow.Author.Tests.{eq-eqb, ne-eqb}
 use lib.ListN.{length, getD, drop}
 use Rattle.lists.specs.Lists.{distinct}
-use Rattle.rules.specs.Graph.{Graph, same, graphBuffer, graphFits, graphFrom}
-use Rattle.rules.specs.Build.{mergeRound, mergesNone}
-use Rattle.rules.proofs.Fits.{Root}
-use Rattle.rules.proofs.Taken.{taken-few, taken-long, taken-root}
-use Rattle.rules.proofs.Flat.{from-length}
+use Rattle.graph_rules.specs.Graph.{Graph, same, graphBuffer, graphFits, graphFrom}
+use Rattle.graph_rules.specs.Build.{mergeRound, mergesNone}
+use Rattle.graph_rules.proofs.Fits.{Root}
+use Rattle.graph_rules.proofs.Taken.{taken-few, taken-long, taken-root}
+use Rattle.graph_rules.proofs.Flat.{from-length}
 use Rattle.merge.specs.Equals.{Lowest}
 use Rattle.merge.proofs.Grouping.{Grouped, grouped-none, grouped-low, grouped-new, grouped-met, grouped-count, round-is, grouped-fitting}
 use Rattle.merge.proofs.merge_round.Statement.{statement}

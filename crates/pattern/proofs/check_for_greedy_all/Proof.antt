@@ -7,7 +7,7 @@ use borrow.Author.Needs.{needs}
 use borrow.Author.Tests.{not-true, not-false}
 use Rattle.trees.proofs.TreeLaws.{tree-rules}
 use Rattle.pattern.proofs.GreedyLaws.{Noted, noted-starts, named-below, noted-goes, noted-ends}
-use Rattle.pattern.proofs.Answers.{no-greedy-tree, greedy-told}
+use Rattle.pattern.proofs.Answers.{no-greedy-tree, greedy-report}
 use Rattle.pattern.proofs.check_for_greedy_all.Statement.{statement}
 use Rattle.pattern.proofs.check_for_greedy_all.Tie as tie
 
@@ -79,7 +79,7 @@ array-read-t11 c =
 returns-2 : tie.Need-returns-2 Inv-loop μ-loop
 returns-2 c =
     let l = c .before .loop in
-    greedy-told _ _ (l .inv .2 .fits) _ (noted-ends (l .inv .2) (omega arith))
+    greedy-report _ _ (l .inv .2 .fits) _ (noted-ends (l .inv .2) (omega arith))
 
 pub check-for-greedy-all-spec : {M : Type 1} → statement M
 check-for-greedy-all-spec =

@@ -2,7 +2,7 @@
 use borrow.Author.Needs.{needs}
 use mathlib.Core.List.{List}
 use Prim.Native.Nat.{ℕ}
-use Rattle.rules.specs.Graph.{graphFrom}
+use Rattle.graph_rules.specs.Graph.{graphFrom}
 use Rattle.display.specs.Text.{bytes, Counts}
 use Rattle.display.specs.Display.{displayed}
 use Rattle.display.proofs.Runs.{wrote-then, counts-first, counts-then}

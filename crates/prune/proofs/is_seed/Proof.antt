@@ -7,8 +7,8 @@ use borrow.Author.Needs.{needs}
 use lib.Dec.{eqb}
 use lib.ListN.{getD}
 use Rattle.lists.proofs.Bools.{or-left}
-use Rattle.rules.specs.Graph.{graphFrom}
-use Rattle.rules.proofs.Taken.{taken-long}
+use Rattle.graph_rules.specs.Graph.{graphFrom}
+use Rattle.graph_rules.proofs.Taken.{taken-long}
 use Rattle.prune.proofs.Backward.{is-marked, unmarked}
 use Rattle.prune.proofs.is_seed.Statement.{statement}
 use Rattle.prune.proofs.is_seed.Tie as tie

@@ -10,10 +10,10 @@ use borrow.Author.Tests.{not-true, not-false}
 use lib.ListN.{length, getD, replicate}
 use Rattle.lists.specs.Sets.{count}
 use Rattle.lists.proofs.Closure.{count-length}
-use Rattle.rules.specs.Graph.{Graph, stateOf, leads, graphFrom}
-use Rattle.rules.specs.Build.{kept}
-use Rattle.rules.proofs.Taken.{taken-few, taken-long}
-use Rattle.rules.proofs.Flat.{from-length}
+use Rattle.graph_rules.specs.Graph.{Graph, stateOf, leads, graphFrom}
+use Rattle.graph_rules.specs.Build.{kept}
+use Rattle.graph_rules.proofs.Taken.{taken-few, taken-long}
+use Rattle.graph_rules.proofs.Flat.{from-length}
 use Rattle.prune.specs.Matrix.{bitAt}
 use Rattle.prune.proofs.Backward.{seed, Search, search-done, found-none, found-there}
 use Rattle.prune.proofs.Looking.{SeedsIn, Seeded, seeded-none, seeded-room, seeded-more, seeded-skip, Looked, stack-low, taken-below, looked-none, looked-room, looked-byte, looked-skip, looked-more, looked-all}

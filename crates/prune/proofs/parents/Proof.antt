@@ -5,9 +5,9 @@ use Prim.Native.Nat.{ℕ, _≤_, _<_, _-_, _+_, _*_, _/_}
 use native.Mathlib.Omega.{arith}
 use lib.ListN.{length, getD, set}
 use Rattle.lists.proofs.Bools.{none-some}
-use Rattle.rules.specs.Graph.{Graph, graphFrom, to}
-use Rattle.rules.proofs.Taken.{taken-few, taken-long}
-use Rattle.rules.proofs.Flat.{from-length}
+use Rattle.graph_rules.specs.Graph.{Graph, graphFrom, to}
+use Rattle.graph_rules.proofs.Taken.{taken-few, taken-long}
+use Rattle.graph_rules.proofs.Flat.{from-length}
 use Rattle.words.proofs.GraphWords.{from-edge, edge-none, edge-some}
 use Rattle.prune.proofs.BitRows.{Matrix, parents-none, parents-skip, parents-set, parents-row, parents-all}
 use Rattle.prune.proofs.parents.Statement.{statement}

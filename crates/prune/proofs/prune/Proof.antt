@@ -7,10 +7,10 @@ use Prim.Native.Nat.{ℕ, _+_, _*_, _-_}
 use borrow.Author.Needs.{needs}
 use lib.ListN.{getD, drop, replicate}
 use Rattle.lists.specs.Lists.{select, numberFrom}
-use Rattle.rules.specs.Graph.{Graph, graphBuffer, graphFits, graphFrom}
-use Rattle.rules.specs.Build.{kept, relabel}
-use Rattle.rules.proofs.Taken.{taken-root}
-use Rattle.rules.proofs.Flat.{from-length}
+use Rattle.graph_rules.specs.Graph.{Graph, graphBuffer, graphFits, graphFrom}
+use Rattle.graph_rules.specs.Build.{kept, relabel}
+use Rattle.graph_rules.proofs.Taken.{taken-root}
+use Rattle.graph_rules.proofs.Flat.{from-length}
 use Rattle.relabel.specs.Names.{namesOf, Fitting}
 use Rattle.prune.proofs.Pruning.{prune-is, prune-fitting}
 use Rattle.prune.proofs.prune.Statement.{statement}

@@ -11,11 +11,11 @@ use lib.ListN.{length, getD, set, take, drop, length-set, length-append}
 use Rattle.lists.specs.Lists.{select}
 use Rattle.lists.proofs.Selecting.{select-from, select-in, select-out, select-whole, select-few}
 use Rattle.words.specs.Places.{graphPlace}
-use Rattle.rules.specs.Graph.{State, Graph, blank, stateOf, graphFrom, graphBuffer}
-use Rattle.rules.specs.Build.{relabel}
-use Rattle.rules.proofs.Fits.{Fits, relabel-fits}
-use Rattle.rules.proofs.Taken.{taken-few, taken-long, taken-root, taken-target}
-use Rattle.rules.proofs.Flat.{from-length}
+use Rattle.graph_rules.specs.Graph.{State, Graph, blank, stateOf, graphFrom, graphBuffer}
+use Rattle.graph_rules.specs.Build.{relabel}
+use Rattle.graph_rules.proofs.Fits.{Fits, relabel-fits}
+use Rattle.graph_rules.proofs.Taken.{taken-few, taken-long, taken-root, taken-target}
+use Rattle.graph_rules.proofs.Flat.{from-length}
 use Rattle.relabel.specs.Names.{namesOf, Moved, Zeroed}
 use Rattle.words.proofs.GraphWords.{taken-fits}
 use Rattle.words.proofs.Buffers.{buffer-taken}

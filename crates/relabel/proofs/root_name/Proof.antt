@@ -4,7 +4,7 @@ use mathlib.Core.Option.{Option, Option·getD}
 use Prim.Native.Nat.{ℕ}
 use native.Mathlib.Omega.{arith}
 use borrow.Author.Needs.{needs}
-use Rattle.rules.proofs.Nones.{or-none, or-number}
+use Rattle.graph_rules.proofs.Nones.{or-none, or-number}
 use Rattle.relabel.proofs.Rows.{name-is}
 use Rattle.relabel.proofs.root_name.Statement.{statement}
 use Rattle.relabel.proofs.root_name.Tie as tie

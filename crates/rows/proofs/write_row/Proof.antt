@@ -6,12 +6,12 @@ use native.Mathlib.Omega.{arith}
 use lib.ListN.{length, getD, set, take, length-set}
 use lib.Seq.{sets, take-all}
 use Rattle.lists.proofs.Runs.{sets-take}
-use Rattle.rules.specs.Table.{tableOf}
+use Rattle.graph_rules.specs.Table.{tableOf}
 use Rattle.words.specs.Places.{graphPlace, rowPlace}
 use Rattle.legal.specs.Conditions.{targetWord, Sized}
 use Rattle.rows.specs.Renumbering.{newTarget, newRow}
 use Rattle.legal.proofs.Legal.{legal-sized, legal-means}
-use Rattle.rules.proofs.LeafWords.{leaf-low}
+use Rattle.graph_rules.proofs.LeafWords.{leaf-low}
 use Rattle.rows.proofs.NewRows.{row-length, row-target, row-marks}
 use Rattle.rows.proofs.write_row.Statement.{statement}
 use Rattle.rows.proofs.write_row.Tie as tie

@@ -1,7 +1,7 @@
 -- `build::balthwyr_build` meets its contract: the answer of `new` is stored, and its buffers are the call's. Assumes nothing.
 use borrow.Author.Needs.{needs}
 use mathlib.Core.Path.{sym, ap, _∙_}
-use Rattle.graph.specs.New.{Outcome, builtTold}
+use Rattle.graph.specs.New.{Outcome, builtReport}
 use Rattle.capi.proofs.build.balthwyr_build.Statement.{statement}
 use Rattle.capi.proofs.build.balthwyr_build.Tie as tie
 
@@ -20,7 +20,7 @@ same-length-2 c = search needs
 returns : tie.Need-returns
 returns c =
     let outcome = c .before .before .before .before .before .before .before .before .before .new .ensures in
-    let answered = ap (λ (o : Outcome). builtTold (o .answer)) outcome in
+    let answered = ap (λ (o : Outcome). builtReport (o .answer)) outcome in
     (sym answered ∙ c .store .ensures, (ap (λ (o : Outcome). o .graph) outcome, ap (λ (o : Outcome). o .errors) outcome))
 
 pub balthwyr-build-spec : {M : Type 1} → statement M

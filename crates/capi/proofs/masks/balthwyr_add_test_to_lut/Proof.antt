@@ -5,7 +5,7 @@ use mathlib.Core.Path.{_≡_, sym, ap, _∙_}
 use native.Mathlib.Omega.{arith}
 use lib.ListN.{length}
 use Rattle.mask_store.specs.declared.Added.{Added}
-use Rattle.mask_store.specs.Masks.{addTold}
+use Rattle.mask_store.specs.Masks.{addReport}
 use Rattle.capi.specs.Lent.{flagsOf}
 use Rattle.capi.specs.Stores.{addTo}
 use Rattle.capi.proofs.Blocks.{sets-whole}
@@ -34,7 +34,7 @@ returns : tie.Need-returns
 returns c =
     let st = c .before .before .before in
     let e = add-to-none (st .args .tables .now) (st .args .count .now) _ (c .if1 .taken) in
-    (ap (λ (a : Added). addTold (a .answer)) e, (sym (ap (λ (a : Added). a .store .tables) e), sym (ap (λ (a : Added). a .store .count) e)))
+    (ap (λ (a : Added). addReport (a .answer)) e, (sym (ap (λ (a : Added). a .store .tables) e), sym (ap (λ (a : Added). a .store .count) e)))
 
 store-of-requires : tie.Need-store-of-requires
 store-of-requires c κs = search needs
@@ -63,7 +63,7 @@ returns-2 c =
     let at = written .before .before .before .before .before in
     let found = at .before .before .before .before .before in
     let grown = at .add-by-loan .result .store .tables in (
-      sym (ap (λ (r : Added). addTold (r .answer)) (added at)) ∙ c .store-number .ensures,
+      sym (ap (λ (r : Added). addReport (r .answer)) (added at)) ∙ c .store-number .ensures,
       (
         written .write .ensures ∙ sets-whole (found .before .before .before .args .tables .now) grown (size at ∙ sym (found .if1 .left)) ∙ ap (λ (r : Added). r .store .tables) (added at),
         ap (λ (r : Added). r .store .count) (added at),

@@ -6,7 +6,7 @@ use native.Mathlib.Omega.{arith}
 use lib.ListN.{length}
 use Rattle.plan_rules.specs.Plan.{base}
 use Rattle.planning.specs.declared.plan.Planning.{Planning}
-use Rattle.planning.specs.Plan.{PlanCall, planTold, planCall}
+use Rattle.planning.specs.Plan.{PlanCall, planReport, planCall}
 use Rattle.capi.specs.Stores.{storeIn}
 use Rattle.capi.proofs.Blocks.{sets-whole}
 use Rattle.capi.proofs.HeldPlans.{plan-in, plan-in-none, plan-in-size}
@@ -49,7 +49,7 @@ returns c =
     let at = c .before .before .before .before .before in
     let a = at .before .before .before .before .before .before .before .before .args in
     let e = plan-in-none (a .graph .now) (a .plan .now) (a .tables .now) (a .count .now) (c .before .before .if1 .taken) in (
-      ap (λ (p : PlanCall). planTold (p .planning .answer)) e ∙ sym (ap (λ (p : Planning). planTold (p .answer)) (planned at .0)) ∙ c .store .ensures,
+      ap (λ (p : PlanCall). planReport (p .planning .answer)) e ∙ sym (ap (λ (p : Planning). planReport (p .answer)) (planned at .0)) ∙ c .store .ensures,
       (
         planned at .1 ∙ sym (ap (λ (p : PlanCall). p .buffer) e),
         (sym (ap (λ (p : PlanCall). p .planning .store .tables) e), sym (ap (λ (p : PlanCall). p .planning .store .count) e)),
@@ -82,7 +82,7 @@ returns-2 c =
     let a = at .before .before .before .before .before .before .before .before .args in
     let e = plan-in (a .graph .now) (a .plan .now) (a .tables .now) (a .count .now) (tested .if1 .left) in
     let p = planned at in (
-      ap (λ (p : PlanCall). planTold (p .planning .answer)) e ∙ sym (ap (λ (p : Planning). planTold (p .answer)) (p .0)) ∙ c .store2 .ensures,
+      ap (λ (p : PlanCall). planReport (p .planning .answer)) e ∙ sym (ap (λ (p : Planning). planReport (p .answer)) (p .0)) ∙ c .store2 .ensures,
       (
         p .1 ∙ sym (ap (λ (p : PlanCall). p .buffer) e),
         (

@@ -1,7 +1,7 @@
--- `plan::store` meets its contract: what is stored is what `planTold` tells of the answer's variant. Assumes nothing.
+-- `plan::store` meets its contract: what is stored is what `planReport` tells of the answer's variant. Assumes nothing.
 use borrow.Author.Needs.{needs}
 use mathlib.Core.Path.{ap}
-use Rattle.planning.specs.Plan.{planTold}
+use Rattle.planning.specs.Plan.{planReport}
 use Rattle.capi.proofs.plan.store.Statement.{statement}
 use Rattle.capi.proofs.plan.store.Tie as tie
 
@@ -15,7 +15,7 @@ returns : tie.Need-returns
 returns c = search needs
 
 returns-2 : tie.Need-returns-2
-returns-2 c = ap planTold (c .before .answer2 .given .1)
+returns-2 c = ap planReport (c .before .answer2 .given .1)
 
 pub store-spec : {M : Type 1} → statement M
 store-spec = tie.close (tie.spec enum-known-answer enum-known-answer-2 returns returns-2)

@@ -1,7 +1,7 @@
--- `read::store` meets its contract: what is stored is what `readTold` tells of the answer's variant. Assumes nothing.
+-- `read::store` meets its contract: what is stored is what `readReport` tells of the answer's variant. Assumes nothing.
 use borrow.Author.Needs.{needs}
 use mathlib.Core.Path.{ap}
-use Rattle.readings.specs.Answers.{readTold}
+use Rattle.readings.specs.Answers.{readReport}
 use Rattle.capi.proofs.read.store.Statement.{statement}
 use Rattle.capi.proofs.read.store.Tie as tie
 
@@ -21,7 +21,7 @@ returns-2 : tie.Need-returns-2
 returns-2 c = search needs
 
 returns-3 : tie.Need-returns-3
-returns-3 c = ap readTold (c .before .answer2 .given .1)
+returns-3 c = ap readReport (c .before .answer2 .given .1)
 
 pub store-spec : {M : Type 1} → statement M
 store-spec = tie.close (tie.spec enum-known-answer enum-told enum-known-answer-2 returns returns-2 returns-3)

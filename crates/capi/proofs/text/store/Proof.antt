@@ -1,7 +1,7 @@
--- `text::store` meets its contract: what is stored is what `shownTold` tells of the answer's variant. Assumes nothing.
+-- `text::store` meets its contract: what is stored is what `shownReport` tells of the answer's variant. Assumes nothing.
 use borrow.Author.Needs.{needs}
 use mathlib.Core.Path.{ap}
-use Rattle.display.specs.Answers.{shownTold}
+use Rattle.display.specs.Answers.{shownReport}
 use Rattle.capi.proofs.text.store.Statement.{statement}
 use Rattle.capi.proofs.text.store.Tie as tie
 
@@ -15,7 +15,7 @@ returns : tie.Need-returns
 returns c = search needs
 
 returns-2 : tie.Need-returns-2
-returns-2 c = ap shownTold (c .before .answer2 .given .1)
+returns-2 c = ap shownReport (c .before .answer2 .given .1)
 
 pub store-spec : {M : Type 1} → statement M
 store-spec = tie.close (tie.spec enum-known-answer enum-known-answer-2 returns returns-2)

@@ -1,7 +1,7 @@
--- `verdict::store` meets its contract: what is stored is what `cleanTold` tells of the answer's variant. Assumes nothing.
+-- `verdict::store` meets its contract: what is stored is what `cleanReport` tells of the answer's variant. Assumes nothing.
 use borrow.Author.Needs.{needs}
 use mathlib.Core.Path.{ap}
-use Rattle.clean.specs.Answers.{cleanTold}
+use Rattle.clean.specs.Answers.{cleanReport}
 use Rattle.capi.proofs.verdict.store.Statement.{statement}
 use Rattle.capi.proofs.verdict.store.Tie as tie
 
@@ -27,7 +27,7 @@ returns-2 : tie.Need-returns-2
 returns-2 c = search needs
 
 returns-3 : tie.Need-returns-3
-returns-3 c = ap cleanTold (c .before .answer2 .given .1)
+returns-3 c = ap cleanReport (c .before .answer2 .given .1)
 
 pub store-spec : {M : Type 1} → statement M
 store-spec =

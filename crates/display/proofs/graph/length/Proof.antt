@@ -1,7 +1,7 @@
 -- Where no byte is written, the place after the text is its length. Assumes nothing.
 use borrow.Author.Needs.{needs}
 use native.Mathlib.Omega.{arith}
-use Rattle.rules.proofs.Taken.{taken-few}
+use Rattle.graph_rules.proofs.Taken.{taken-few}
 use Rattle.display.proofs.Sizes.{graph-size}
 use Rattle.display.proofs.graph.length.Statement.{statement}
 use Rattle.display.proofs.graph.length.Tie as tie

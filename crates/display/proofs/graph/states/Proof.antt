@@ -4,8 +4,8 @@ use mathlib.Core.List.{List, _++_}
 use Prim.Native.Nat.{ℕ, _+_, _≤_, _<_, _-_}
 use native.Mathlib.Omega.{arith}
 use lib.ListN.{getD}
-use Rattle.rules.specs.Graph.{graphFrom}
-use Rattle.rules.proofs.Taken.{taken-long}
+use Rattle.graph_rules.specs.Graph.{graphFrom}
+use Rattle.graph_rules.proofs.Taken.{taken-long}
 use Rattle.display.specs.Text.{bytes, Counts}
 use Rattle.display.specs.Display.{displayed}
 use Rattle.display.proofs.Runs.{Underway, wrote-none, wrote-as, wrote-then, wrote-length, starts, ends, goes, underway-as, part-counts, counts-first, counts-then}

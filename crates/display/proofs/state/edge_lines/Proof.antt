@@ -6,8 +6,8 @@ use Prim.Native.Nat.{ℕ, _+_, _≤_, _<_, _-_}
 use native.Mathlib.Omega.{arith}
 use lib.ListN.{getD}
 use Rattle.classes.specs.Classes.{Class}
-use Rattle.rules.specs.Graph.{State, stateOf, graphFrom}
-use Rattle.rules.proofs.Taken.{taken-long, taken-few}
+use Rattle.graph_rules.specs.Graph.{State, stateOf, graphFrom}
+use Rattle.graph_rules.proofs.Taken.{taken-long, taken-few}
 use Rattle.display.specs.Text.{bytes, Counts}
 use Rattle.display.specs.Display.{edgeLine}
 use Rattle.edges.specs.Edges.{classTo, leadsTo}

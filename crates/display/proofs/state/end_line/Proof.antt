@@ -3,7 +3,7 @@ use borrow.Author.Needs.{needs}
 use borrow.Author.Tests.{eq-eqb, ne-eqb}
 use mathlib.Core.Path.{_≡_, sym, subst}
 use mathlib.Core.List.{_++_, append-nil}
-use Rattle.rules.specs.Graph.{orNone}
+use Rattle.graph_rules.specs.Graph.{orNone}
 use Rattle.display.specs.Text.{after, bytes, decimal, Counts}
 use Rattle.display.specs.Display.{endLines}
 use Rattle.display.proofs.Runs.{wrote-none, wrote-as}

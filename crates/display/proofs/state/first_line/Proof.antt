@@ -5,7 +5,7 @@ use mathlib.Core.List.{_++_}
 use Prim.Native.Nat.{ℕ, _+_, _/_, _%_}
 use native.Mathlib.Omega.{arith}
 use lib.ListN.{length, length-append}
-use Rattle.rules.specs.Graph.{orNone}
+use Rattle.graph_rules.specs.Graph.{orNone}
 use Rattle.display.specs.Text.{bytes, decimal}
 use Rattle.display.specs.Display.{markText, firstLine}
 use Rattle.display.proofs.Runs.{wrote-then, wrote-as}

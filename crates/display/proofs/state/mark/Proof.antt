@@ -3,7 +3,7 @@ use borrow.Author.Needs.{needs}
 use borrow.Author.Tests.{eq-eqb, ne-eqb}
 use mathlib.Core.Path.{_≡_, sym, subst}
 use mathlib.Core.List.{_++_, append-assoc}
-use Rattle.rules.specs.Graph.{orNone}
+use Rattle.graph_rules.specs.Graph.{orNone}
 use Rattle.display.specs.Text.{bytes, decimal, Counts}
 use Rattle.display.specs.Display.{markText}
 use Rattle.display.proofs.Runs.{wrote-none, wrote-then, wrote-as, counts-first, counts-then}

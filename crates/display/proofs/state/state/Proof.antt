@@ -5,8 +5,8 @@ use mathlib.Core.List.{List}
 use Prim.Native.Nat.{ℕ, _+_, _/_, _%_}
 use native.Mathlib.Omega.{arith}
 use lib.ListN.{length, getD, length-append}
-use Rattle.rules.specs.Graph.{State, stateOf, orNone, graphFrom}
-use Rattle.rules.proofs.Taken.{taken-long, taken-few}
+use Rattle.graph_rules.specs.Graph.{State, stateOf, orNone, graphFrom}
+use Rattle.graph_rules.proofs.Taken.{taken-long, taken-few}
 use Rattle.display.specs.Text.{bytes, after}
 use Rattle.display.specs.Display.{firstLine, edgeLines, endLines, stateText}
 use Rattle.display.proofs.Runs.{wrote-then, wrote-as}

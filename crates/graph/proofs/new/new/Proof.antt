@@ -5,8 +5,8 @@ use mathlib.Core.List.{List}
 use Prim.Native.Nat.{ℕ, _+_, _*_, _≤_}
 use native.Mathlib.Omega.{arith}
 use lib.ListN.{length, getD}
-use Rattle.rules.specs.Table.{tableOf, refusal}
-use Rattle.rules.proofs.Shape.{exact, few-states, refusal-small, start-none, start-some}
+use Rattle.graph_rules.specs.Table.{tableOf, refusal}
+use Rattle.graph_rules.proofs.Shape.{exact, few-states, refusal-small, start-none, start-some}
 use Rattle.graph.proofs.Building.{build-none, build-empty, build-states, new-refused, new-short, new-built}
 use borrow.Author.Needs.{needs}
 use Rattle.graph.proofs.new.new.Statement.{statement}

@@ -4,8 +4,8 @@ use mathlib.Core.List.{map, flatMap}
 use Prim.Native.Nat.{ℕ, _*_, _≤_}
 use native.Mathlib.Omega.{arith}
 use lib.ListN.{length, length-map}
-use Rattle.rules.specs.Table.{tableOf}
-use Rattle.rules.specs.Build.{Built, emptyMatch, errorWords, emptyLeaves, noStates}
+use Rattle.graph_rules.specs.Table.{tableOf}
+use Rattle.graph_rules.specs.Build.{Built, emptyMatch, errorWords, emptyLeaves, noStates}
 use Rattle.graph.specs.declared.new.Counts.{Counts}
 use Rattle.graph.specs.New.{conflicts}
 use Rattle.graph.proofs.Written.{short, enough, empty-words, few-empty}

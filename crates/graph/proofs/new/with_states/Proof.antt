@@ -3,7 +3,7 @@ use mathlib.Core.Path.{_≡_, sym, subst, _∙_}
 use Prim.Native.Nat.{ℕ, _<_}
 use native.Mathlib.Omega.{arith}
 use lib.ListN.{getD}
-use Rattle.rules.proofs.Shape.{legal-start, size-is}
+use Rattle.graph_rules.proofs.Shape.{legal-start, size-is}
 use Rattle.graph.proofs.Building.{states-short, states-done}
 use borrow.Author.Needs.{needs}
 use Rattle.graph.proofs.new.with_states.Statement.{statement}

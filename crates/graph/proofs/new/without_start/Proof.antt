@@ -3,7 +3,7 @@ use mathlib.Core.Path.{refl}
 use mathlib.Core.List.{[], _∷_, flatMap}
 use native.Mathlib.Omega.{arith}
 use borrow.Author.Needs.{needs}
-use Rattle.rules.specs.Build.{Built, noUniversalStart, noStates}
+use Rattle.graph_rules.specs.Build.{Built, noUniversalStart, noStates}
 use Rattle.graph.specs.New.{conflicts}
 use Rattle.graph.proofs.Written.{short, enough}
 use Rattle.graph.proofs.new.without_start.Statement.{statement}

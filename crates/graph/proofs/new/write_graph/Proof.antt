@@ -2,8 +2,8 @@
 use mathlib.Core.Path.{_≡_, subst, sym, _∙_}
 use Prim.Native.Nat.{ℕ, _<_}
 use lib.ListN.{getD}
-use Rattle.rules.specs.Table.{tableOf}
-use Rattle.rules.proofs.Shape.{few-states, few-leaves, legal-start, size-is}
+use Rattle.graph_rules.specs.Table.{tableOf}
+use Rattle.graph_rules.proofs.Shape.{few-states, few-leaves, legal-start, size-is}
 use Rattle.graph.proofs.Stages.{stage-taken}
 use Rattle.graph.proofs.Composed.{first-stage, composed}
 use borrow.Author.Needs.{needs}

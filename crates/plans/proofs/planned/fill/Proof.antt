@@ -5,7 +5,7 @@ use Prim.Native.Nat.{ℕ, _+_, _-_, _/_, _<_}
 use native.Mathlib.Omega.{arith}
 use borrow.Author.Needs.{needs}
 use lib.ListN.{length}
-use Rattle.rules.specs.Graph.{graphFrom}
+use Rattle.graph_rules.specs.Graph.{graphFrom}
 use Rattle.scans.specs.List.{listFrom}
 use Rattle.scans.proofs.Filling.{Filling, filling-none, filling-more, left-full, left-ends, done-listed, done-buffer}
 use Rattle.plans.proofs.planned.fill.Statement.{statement}

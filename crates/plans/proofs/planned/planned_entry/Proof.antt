@@ -2,8 +2,8 @@
 use mathlib.Core.Path.{_≡_, ap, _∙_}
 use native.Mathlib.Omega.{arith}
 use lib.ListN.{drop}
-use Rattle.rules.specs.Graph.{graphFrom}
-use Rattle.rules.specs.Read.{readGraph}
+use Rattle.graph_rules.specs.Graph.{graphFrom}
+use Rattle.graph_rules.specs.Read.{readGraph}
 use Rattle.readings.specs.Answers.{recorded}
 use Rattle.scans.specs.Scan.{entryOf}
 use Rattle.scans.proofs.Entries.{token-within}

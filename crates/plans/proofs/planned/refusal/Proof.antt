@@ -2,7 +2,7 @@
 use mathlib.Core.Path.{_≡_, sym, _∙_}
 use mathlib.Core.Bool.{true}
 use borrow.Author.Tests.{not-true, not-false}
-use Rattle.rules.specs.Graph.{graphFits}
+use Rattle.graph_rules.specs.Graph.{graphFits}
 use Rattle.plans.proofs.PlannedScans.{planned-unfit, planned-past, planned-in}
 use borrow.Author.Needs.{needs}
 use Rattle.plans.proofs.planned.refusal.Statement.{statement}

@@ -3,7 +3,7 @@ use mathlib.Core.Path.{_≡_, sym, _∙_}
 use Prim.Native.Nat.{ℕ}
 use borrow.Author.Needs.{needs}
 use lib.ListN.{length, length-replicate}
-use Rattle.rules.specs.Graph.{graphFrom}
+use Rattle.graph_rules.specs.Graph.{graphFrom}
 use Rattle.scans.proofs.ListAnswers.{both}
 use Rattle.plans.proofs.Running.{plan-on, runs-alike}
 use Rattle.plans.proofs.PlannedScans.{past-at, Scannable, scannable, planned-refused, planned-over, planned-list}

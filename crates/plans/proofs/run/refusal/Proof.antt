@@ -5,8 +5,8 @@ use Prim.Native.Nat.{_≤_}
 use native.Mathlib.Omega.{arith}
 use borrow.Author.Tests.{not-true, not-false}
 use lib.ListN.{length}
-use Rattle.rules.proofs.Taken.{taken-long}
-use Rattle.rules.specs.Graph.{graphFrom}
+use Rattle.graph_rules.proofs.Taken.{taken-long}
+use Rattle.graph_rules.specs.Graph.{graphFrom}
 use Rattle.mask_store.specs.Masks.{grown, takes}
 use Rattle.plan_rules.specs.Plan.{base, needs as needed, planSize}
 use Rattle.planning.proofs.Planning.{size-is, grow-taken, grow-store}

@@ -2,7 +2,7 @@
 use mathlib.Core.Path.{_≡_, sym, _∙_}
 use lib.ListN.{length, length-replicate}
 use Prim.Native.Nat.{ℕ}
-use Rattle.rules.specs.Graph.{graphFrom, graphFits}
+use Rattle.graph_rules.specs.Graph.{graphFrom, graphFits}
 use Rattle.plans.proofs.Running.{Taken, plan-on, run-taken, run-refused, run-answers}
 use mathlib.Core.Bool.{true}
 use borrow.Author.Needs.{needs}

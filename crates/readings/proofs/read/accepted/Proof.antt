@@ -1,7 +1,7 @@
 -- By whether there is an accept, and whether a byte has been passed: as before, or the match one byte late. Assumes nothing.
 use mathlib.Core.Path.{sym, _∙_}
 use borrow.Author.Needs.{needs}
-use Rattle.rules.specs.Graph.{orNone}
+use Rattle.graph_rules.specs.Graph.{orNone}
 use Rattle.readings.proofs.Turn.{recorded-some, late-none, late-zero, late-back}
 use Rattle.readings.proofs.read.accepted.Statement.{statement}
 use Rattle.readings.proofs.read.accepted.Tie as tie

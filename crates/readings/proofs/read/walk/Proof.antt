@@ -8,9 +8,9 @@ use Prim.Native.Nat.{ℕ, suc, _≤_, _<_, _-_, _+_, _*_}
 use native.Mathlib.Omega.{arith}
 use borrow.Author.Needs.{needs}
 use lib.ListN.{length, getD}
-use Rattle.rules.specs.Graph.{graphFrom, graphFits}
-use Rattle.rules.specs.Read.{readGraph}
-use Rattle.rules.proofs.Taken.{taken-long, taken-few, taken-root, taken-target}
+use Rattle.graph_rules.specs.Graph.{graphFrom, graphFits}
+use Rattle.graph_rules.specs.Read.{readGraph}
+use Rattle.graph_rules.proofs.Taken.{taken-long, taken-few, taken-root, taken-target}
 use Rattle.readings.specs.Answers.{recorded}
 use Rattle.readings.proofs.Turn.{rest, rest-start, no-states, loop-stops, loop-below, loop-goes, last-below, last-stops, last-goes}
 use Rattle.readings.proofs.read.walk.Statement.{statement}
@@ -18,8 +18,8 @@ use Rattle.readings.proofs.read.walk.Tie as tie
 use Rattle.readings.proofs.read.walk.Reads as reads
 use Rattle.readings.proofs.read.walk.Lts as lts
 use Rattle.readings.proofs.read.byte.Reads as byte-reads
-use Rattle.readings.proofs.read.entered.Reads as entered-reads
-use Rattle.readings.proofs.read.left.Reads as left-reads
+use Rattle.readings.proofs.read.mark_at.Reads as mark-at-reads
+use Rattle.readings.proofs.read.accept_at_end.Reads as accept-at-end-reads
 use Rattle.words.proofs.graph.word.Reads as graph-word-reads
 use Rattle.words.proofs.word.Reads as word-reads
 
@@ -60,8 +60,8 @@ loop-holds c =
 word-requires-3 : tie.Need-word-requires-3 Inv-loop μ-loop
 word-requires-3 c κs = search needs
 
-entered-requires : tie.Need-entered-requires Inv-loop μ-loop
-entered-requires c κs = search needs
+mark-at-requires : tie.Need-mark-at-requires Inv-loop μ-loop
+mark-at-requires c κs = search needs
 
 byte-requires : tie.Need-byte-requires Inv-loop μ-loop
 byte-requires c κs = search needs
@@ -75,8 +75,8 @@ returns-2 c =
     let l = c .before .before .before .before .before .before .loop in
     let by = c .before .before .byte in
     loop-stops (a .args .graph .now) (a .args .text .now) (a .pre) (l .s) (l .k) (c .before .before .before .before .word3 .result) (c .before .word4 .result)
-    (recorded (l .r .leaf) (l .r .end)) (recorded (c .before .before .before .entered .result .leaf) (c .before .before .before .entered .result .end)) _
-    (l .inv .0) (l .inv .4) (c .before .before .before .before .word3 .ensures .0) (c .before .before .before .entered .ensures) (by .result) (c .before .before .before .before .before .loop-test .taken) (by .ensures .0) (by .ensures .1) (c .before .word4 .ensures .0) (c .if2 .taken)
+    (recorded (l .r .leaf) (l .r .end)) (recorded (c .before .before .before .mark-at .result .leaf) (c .before .before .before .mark-at .result .end)) _
+    (l .inv .0) (l .inv .4) (c .before .before .before .before .word3 .ensures .0) (c .before .before .before .mark-at .ensures) (by .result) (c .before .before .before .before .before .loop-test .taken) (by .ensures .0) (by .ensures .1) (c .before .word4 .ensures .0) (c .if2 .taken)
 
 add-k : tie.Need-add-k Inv-loop μ-loop
 add-k c = omega arith
@@ -90,21 +90,21 @@ loop-again c =
     let l = c .before .before .before .before .before .before .loop in
     let by = c .before .before .byte in (
       loop-below (a .args .graph .now) (a .args .text .now) (a .pre) (l .s) (l .k) (c .before .before .before .before .word3 .result) (c .before .word4 .result)
-          (recorded (l .r .leaf) (l .r .end)) (recorded (c .before .before .before .entered .result .leaf) (c .before .before .before .entered .result .end)) _
-          (l .inv .0) (l .inv .4) (c .before .before .before .before .word3 .ensures .0) (c .before .before .before .entered .ensures) (by .result) (c .before .before .before .before .before .loop-test .taken) (by .ensures .0) (by .ensures .1) (c .before .word4 .ensures .0) (c .if2 .left),
+          (recorded (l .r .leaf) (l .r .end)) (recorded (c .before .before .before .mark-at .result .leaf) (c .before .before .before .mark-at .result .end)) _
+          (l .inv .0) (l .inv .4) (c .before .before .before .before .word3 .ensures .0) (c .before .before .before .mark-at .ensures) (by .result) (c .before .before .before .before .before .loop-test .taken) (by .ensures .0) (by .ensures .1) (c .before .word4 .ensures .0) (c .if2 .left),
       l .inv .1,
       l .inv .2,
       omega arith,
       loop-goes (a .args .graph .now) (a .args .text .now) (a .pre) (l .s) (l .k) (c .before .before .before .before .word3 .result) (c .before .word4 .result)
-          (recorded (l .r .leaf) (l .r .end)) (recorded (c .before .before .before .entered .result .leaf) (c .before .before .before .entered .result .end)) _
-          (l .inv .0) (l .inv .4) (c .before .before .before .before .word3 .ensures .0) (c .before .before .before .entered .ensures) (by .result) (c .before .before .before .before .before .loop-test .taken) (by .ensures .0) (by .ensures .1) (c .before .word4 .ensures .0) (c .if2 .left),
+          (recorded (l .r .leaf) (l .r .end)) (recorded (c .before .before .before .mark-at .result .leaf) (c .before .before .before .mark-at .result .end)) _
+          (l .inv .0) (l .inv .4) (c .before .before .before .before .word3 .ensures .0) (c .before .before .before .mark-at .ensures) (by .result) (c .before .before .before .before .before .loop-test .taken) (by .ensures .0) (by .ensures .1) (c .before .word4 .ensures .0) (c .if2 .left),
     )
 
 word-requires-5 : tie.Need-word-requires-5 Inv-loop μ-loop
 word-requires-5 c κs = search needs
 
-entered-requires-2 : tie.Need-entered-requires-2 Inv-loop μ-loop
-entered-requires-2 c κs = search needs
+mark-at-requires-2 : tie.Need-mark-at-requires-2 Inv-loop μ-loop
+mark-at-requires-2 c κs = search needs
 
 word-requires-6 : tie.Need-word-requires-6 Inv-loop μ-loop
 word-requires-6 c κs = search needs
@@ -129,8 +129,8 @@ word-requires-7 c κs =
     (l .inv .0) (l .inv .4) (c .before .before .before .word5 .ensures .0) (e .ensures) (c .before .word6 .ensures .0) (c .if3 .left) in
     omega arith
 
-left-requires : tie.Need-left-requires Inv-loop μ-loop
-left-requires c κs = search needs
+accept-at-end-requires : tie.Need-accept-at-end-requires Inv-loop μ-loop
+accept-at-end-requires c κs = search needs
 
 returns-4 : tie.Need-returns-4 Inv-loop μ-loop
 returns-4 c =
@@ -138,7 +138,7 @@ returns-4 c =
     let l = c .before .before .before .before .before .before .before .loop in
     let e = c .before .before .before .before .entered2 in
     let d : length (a .args .text .now) ≤ l .k = omega arith in
-    c .left .ensures ∙ last-goes (a .args .graph .now) (a .args .text .now) (a .pre) (l .s) (l .k) (c .before .before .before .before .before .word5 .result) (c .before .before .before .word6 .result)
+    c .accept-at-end .ensures ∙ last-goes (a .args .graph .now) (a .args .text .now) (a .pre) (l .s) (l .k) (c .before .before .before .before .before .word5 .result) (c .before .before .before .word6 .result)
     (recorded (l .r .leaf) (l .r .end)) (recorded (e .result .leaf) (e .result .end)) _
     (l .inv .0) (l .inv .4) (c .before .before .before .before .before .word5 .ensures .0) (e .ensures) (c .before .before .before .word6 .ensures .0) d (c .before .before .if3 .left) (c .before .word7 .result) (c .before .word7 .ensures .0)
 
@@ -153,7 +153,7 @@ walk-spec =
     word-requires-2
     loop-holds
     word-requires-3
-    entered-requires
+    mark-at-requires
     byte-requires
     word-requires-4
     returns-2
@@ -161,9 +161,9 @@ walk-spec =
     loop-less
     loop-again
     word-requires-5
-    entered-requires-2
+    mark-at-requires-2
     word-requires-6
     returns-3
     word-requires-7
-    left-requires
+    accept-at-end-requires
     returns-4)

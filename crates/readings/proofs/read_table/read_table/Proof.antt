@@ -3,7 +3,7 @@ use mathlib.Core.Path.{sym, ap, _∙_}
 use native.Mathlib.Omega.{arith}
 use borrow.Author.Needs.{needs}
 use Rattle.readings.specs.Answers.{reading}
-use Rattle.rules.proofs.Shape.{refusal-small}
+use Rattle.graph_rules.proofs.Shape.{refusal-small}
 use Rattle.readings.proofs.Answering.{table-refused, table-answered}
 use Rattle.readings.proofs.read_table.read_table.Statement.{statement}
 use Rattle.readings.proofs.read_table.read_table.Tie as tie

@@ -1,6 +1,6 @@
 -- The word of a legal table at the place of the layout. Assumes nothing.
 use native.Mathlib.Omega.{arith}
-use Rattle.rules.proofs.Shape.{exact, few-states, few-leaves}
+use Rattle.graph_rules.proofs.Shape.{exact, few-states, few-leaves}
 use Rattle.readings.proofs.TableTurn.{step-inside, step-read}
 use Rattle.readings.proofs.read_table.step.Statement.{statement}
 use Rattle.readings.proofs.read_table.step.Tie as tie

@@ -5,9 +5,9 @@ use Prim.Native.Nat.{_≤_, _<_, _-_}
 use native.Mathlib.Omega.{arith}
 use borrow.Author.Needs.{needs}
 use lib.ListN.{length, getD}
-use Rattle.rules.specs.Table.{tableOf}
-use Rattle.rules.specs.Read.{readTable}
-use Rattle.rules.proofs.Shape.{exact}
+use Rattle.graph_rules.specs.Table.{tableOf}
+use Rattle.graph_rules.specs.Read.{readTable}
+use Rattle.graph_rules.proofs.Shape.{exact}
 use Rattle.readings.specs.Answers.{recorded}
 use Rattle.readings.proofs.TableTurn.{rest, starts-none, starts-dead, starts-at, start-below, turn-stops, turn-goes, end-stops, end-goes}
 use Rattle.readings.proofs.read_table.walk.Statement.{statement}
@@ -16,7 +16,7 @@ use Rattle.readings.proofs.read_table.walk.Reads as reads
 use Rattle.readings.proofs.read_table.walk.Lts as lts
 use Rattle.readings.proofs.read.accepted.Reads as accepted-reads
 use Rattle.readings.proofs.read.byte.Reads as byte-reads
-use Rattle.readings.proofs.read.left.Reads as left-reads
+use Rattle.readings.proofs.read.accept_at_end.Reads as accept-at-end-reads
 use Rattle.readings.proofs.read_table.step.Reads as step-reads
 use Rattle.leaves.proofs.leaf_of.Reads as leaf-of-reads
 use Rattle.words.proofs.table.start.Reads as start-reads
@@ -114,8 +114,8 @@ returns-4 c =
 leaf-of-requires-3 : tie.Need-leaf-of-requires-3 Inv-loop μ-loop
 leaf-of-requires-3 c κs = (c .before .before .before .before .before .before .before .before .before .before .before .pre, c .before .step2 .ensures .1)
 
-left-requires : tie.Need-left-requires Inv-loop μ-loop
-left-requires c κs = search needs
+accept-at-end-requires : tie.Need-accept-at-end-requires Inv-loop μ-loop
+accept-at-end-requires c κs = search needs
 
 returns-5 : tie.Need-returns-5 Inv-loop μ-loop
 returns-5 c =
@@ -125,7 +125,7 @@ returns-5 c =
     let st = a .before .before .before .before .before .before .before .before in
     let l = a .before .before .loop in
     let q = e .accepted2 .result in
-    c .left .ensures ∙ end-goes (st .args .table .now) (st .args .text .now) (st .pre) (l .s) (l .k) (a .leaf-of2 .result) (u .step2 .result)
+    c .accept-at-end .ensures ∙ end-goes (st .args .table .now) (st .args .text .now) (st .pre) (l .s) (l .k) (a .leaf-of2 .result) (u .step2 .result)
     (recorded (l .r .leaf) (l .r .end)) (recorded (q .leaf) (q .end)) _ (l .inv .2) (a .leaf-of2 .ensures) (e .accepted2 .ensures)
     (omega arith) (u .step2 .ensures .0) (c .before .before .if4 .left) _ (c .before .leaf-of3 .ensures)
 
@@ -152,5 +152,5 @@ walk-spec =
     step-requires-2
     returns-4
     leaf-of-requires-3
-    left-requires
+    accept-at-end-requires
     returns-5)

@@ -2,9 +2,9 @@
 use Prim.Native.Nat.{_-_, _≤_, _<_}
 use native.Mathlib.Omega.{arith}
 use lib.ListN.{getD, length-set}
-use Rattle.rules.specs.Graph.{graphFrom}
-use Rattle.rules.proofs.Flat.{from-length}
-use Rattle.rules.proofs.Taken.{taken-long, taken-few}
+use Rattle.graph_rules.specs.Graph.{graphFrom}
+use Rattle.graph_rules.proofs.Flat.{from-length}
+use Rattle.graph_rules.proofs.Taken.{taken-long, taken-few}
 use Rattle.runner.proofs.Preparing.{PreparedTo, prepared-none, prepared-more, prepared-all, fork-below}
 use Rattle.runner.proofs.prepare.prepare.Statement.{statement}
 use Rattle.runner.proofs.prepare.prepare.Tie as tie

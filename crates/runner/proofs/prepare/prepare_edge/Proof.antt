@@ -4,8 +4,8 @@ use mathlib.Core.Path.{_≡_, ap, _∙_}
 use Prim.Native.Nat.{_+_, _*_, _<_}
 use native.Mathlib.Omega.{arith}
 use Rattle.classes.specs.Classes.{Class, cost}
-use Rattle.rules.specs.Graph.{stateOf, graphFrom}
-use Rattle.rules.proofs.Taken.{taken-few}
+use Rattle.graph_rules.specs.Graph.{stateOf, graphFrom}
+use Rattle.graph_rules.proofs.Taken.{taken-few}
 use Rattle.edges.specs.Edges.{classTo}
 use Rattle.runner.proofs.Packed.{edge-left, edge-written}
 use Rattle.runner.proofs.prepare.prepare_edge.Statement.{statement}

@@ -8,7 +8,7 @@ use Rattle.runner.proofs.run.ended.Statement.{statement}
 use Rattle.runner.proofs.run.ended.Tie as tie
 use Rattle.runner.proofs.run.ended.Reads as reads
 use Rattle.runner.proofs.run.ended.Lts as lts
-use Rattle.readings.proofs.read.left.Reads as left-reads
+use Rattle.readings.proofs.read.accept_at_end.Reads as accept-at-end-reads
 use Rattle.words.proofs.graph.word.Reads as word-reads
 
 word-requires : tie.Need-word-requires
@@ -27,14 +27,14 @@ word-requires-2 c κs =
     let t = end-below (a .args .graph .now) (a .pre .0) (a .args .s) (a .args .k) (recorded (a .args .r .leaf) (a .args .r .end)) (a .pre .1 .0) (w .word .result) (w .word .ensures .0) (c .if1 .left) in
     (omega arith, (omega arith, omega arith))
 
-left-requires : tie.Need-left-requires
-left-requires c κs = search needs
+accept-at-end-requires : tie.Need-accept-at-end-requires
+accept-at-end-requires c κs = search needs
 
 returns-2 : tie.Need-returns-2
 returns-2 c =
     let w = c .before .before .before in
     let a = w .before .before in
-    c .left .ensures ∙ end-marks (a .args .graph .now) (a .pre .0) (a .args .s) (a .args .k) (recorded (a .args .r .leaf) (a .args .r .end)) (a .pre .1 .0) (w .word .result) (w .word .ensures .0) (c .before .before .if1 .left) (c .before .word2 .result) (c .before .word2 .ensures .0)
+    c .accept-at-end .ensures ∙ end-marks (a .args .graph .now) (a .pre .0) (a .args .s) (a .args .k) (recorded (a .args .r .leaf) (a .args .r .end)) (a .pre .1 .0) (w .word .result) (w .word .ensures .0) (c .before .before .if1 .left) (c .before .word2 .result) (c .before .word2 .ensures .0)
 
 pub ended-spec : {M : Type 1} → statement M
-ended-spec = tie.close (tie.spec word-requires returns word-requires-2 left-requires returns-2)
+ended-spec = tie.close (tie.spec word-requires returns word-requires-2 accept-at-end-requires returns-2)

@@ -6,8 +6,8 @@ use Prim.Native.Nat.{ℕ, _≤_, _<_, _-_, _+_, _*_}
 use native.Mathlib.Omega.{arith}
 use borrow.Author.Needs.{needs}
 use lib.ListN.{length, getD}
-use Rattle.rules.specs.Graph.{graphFrom}
-use Rattle.rules.proofs.Taken.{taken-long, taken-few, taken-root}
+use Rattle.graph_rules.specs.Graph.{graphFrom}
+use Rattle.graph_rules.proofs.Taken.{taken-long, taken-few, taken-root}
 use Rattle.readings.specs.Answers.{recorded}
 use Rattle.plan_rules.specs.Plan.{base}
 use Rattle.plan_rules.specs.Run.{runFrom, rowsOf}
@@ -16,8 +16,8 @@ use Rattle.runner.proofs.run.run.Statement.{statement}
 use Rattle.runner.proofs.run.run.Tie as tie
 use Rattle.runner.proofs.run.run.Reads as reads
 use Rattle.runner.proofs.run.run.Lts as lts
-use Rattle.readings.proofs.read.entered.Reads as entered-reads
-use Rattle.runner.proofs.led.led_on.Reads as led-on-reads
+use Rattle.readings.proofs.read.mark_at.Reads as mark-at-reads
+use Rattle.runner.proofs.step.step.Reads as step-reads
 use Rattle.runner.proofs.run.ended.Reads as ended-reads
 use Rattle.runner.proofs.self_run.passed.Reads as passed-reads
 use Rattle.words.proofs.graph.word.Reads as graph-word-reads
@@ -67,8 +67,8 @@ passed-requires c κs =
 word-requires-3 : tie.Need-word-requires-3 Inv-loop μ-loop
 word-requires-3 c κs = search needs
 
-entered-requires : tie.Need-entered-requires Inv-loop μ-loop
-entered-requires c κs = search needs
+mark-at-requires : tie.Need-mark-at-requires Inv-loop μ-loop
+mark-at-requires c κs = search needs
 
 ended-requires : tie.Need-ended-requires Inv-loop μ-loop
 ended-requires c κs =
@@ -86,13 +86,13 @@ returns-2 c =
     let d = w .before in
     let l = d .before in
     let a = l .before .before .before .before .before .before .before .before .before in
-    c .ended .ensures ∙ run-ends (a .args .graph .now) (a .args .plan .now) (a .args .tables .now) (a .args .text .now) (a .pre .0) (a .pre .1 .0 .1) _ (l .loop .s) (l .loop .inv .0) (l .loop .k) (d .passed .result) (w .word3 .result) (recorded (l .loop .r .leaf) (l .loop .r .end)) (recorded (e .entered .result .leaf) (e .entered .result .end)) (l .loop .inv .5) (d .passed .ensures .0 .0) (d .passed .ensures .0 .1) (d .passed .ensures .1 .0) (w .word3 .ensures .0) (e .entered .ensures) (c .before .if2 .taken)
+    c .ended .ensures ∙ run-ends (a .args .graph .now) (a .args .plan .now) (a .args .tables .now) (a .args .text .now) (a .pre .0) (a .pre .1 .0 .1) _ (l .loop .s) (l .loop .inv .0) (l .loop .k) (d .passed .result) (w .word3 .result) (recorded (l .loop .r .leaf) (l .loop .r .end)) (recorded (e .mark-at .result .leaf) (e .mark-at .result .end)) (l .loop .inv .5) (d .passed .ensures .0 .0) (d .passed .ensures .0 .1) (d .passed .ensures .1 .0) (w .word3 .ensures .0) (e .mark-at .ensures) (c .before .if2 .taken)
 
-shared-slice-read-led-on : tie.Need-shared-slice-read-led-on Inv-loop μ-loop
-shared-slice-read-led-on c = search needs
+shared-slice-read-step : tie.Need-shared-slice-read-step Inv-loop μ-loop
+shared-slice-read-step c = search needs
 
-led-on-requires : tie.Need-led-on-requires Inv-loop μ-loop
-led-on-requires c κs =
+step-requires : tie.Need-step-requires Inv-loop μ-loop
+step-requires c κs =
     let e = c .before .before in
     let w = e .before in
     let d = w .before in
@@ -109,7 +109,7 @@ returns-3 c =
     let a = l .before .before .before .before .before .before .before .before .before in
     let o = c .before in
     let more : d .passed .result < length (a .args .text .now) = omega arith in
-    run-stops (a .args .graph .now) (a .args .plan .now) (a .args .tables .now) (a .args .text .now) (a .pre .0) (a .pre .1 .0 .1) _ (l .loop .s) (l .loop .inv .0) (l .loop .k) (d .passed .result) (w .word3 .result) (recorded (l .loop .r .leaf) (l .loop .r .end)) (recorded (e .entered .result .leaf) (e .entered .result .end)) (l .loop .inv .5) (d .passed .ensures .0 .0) (d .passed .ensures .0 .1) (d .passed .ensures .1 .0) (w .word3 .ensures .0) (e .entered .ensures) more (d .passed .ensures .1 .1 more) (o .led-on .result) (o .led-on .ensures .0) (c .if3 .taken)
+    run-stops (a .args .graph .now) (a .args .plan .now) (a .args .tables .now) (a .args .text .now) (a .pre .0) (a .pre .1 .0 .1) _ (l .loop .s) (l .loop .inv .0) (l .loop .k) (d .passed .result) (w .word3 .result) (recorded (l .loop .r .leaf) (l .loop .r .end)) (recorded (e .mark-at .result .leaf) (e .mark-at .result .end)) (l .loop .inv .5) (d .passed .ensures .0 .0) (d .passed .ensures .0 .1) (d .passed .ensures .1 .0) (w .word3 .ensures .0) (e .mark-at .ensures) more (d .passed .ensures .1 .1 more) (o .step .result) (o .step .ensures .0) (c .if3 .taken)
 
 add-k : tie.Need-add-k Inv-loop μ-loop
 add-k c =
@@ -129,12 +129,12 @@ loop-again c =
     let a = l .before .before .before .before .before .before .before .before .before in
     let o = c .before in
     let more : d .passed .result < length (a .args .text .now) = omega arith in (
-      o .led-on .ensures .1 (c .if3 .left),
+      o .step .ensures .1 (c .if3 .left),
       l .loop .inv .1,
       l .loop .inv .2,
       l .loop .inv .3,
       omega arith,
-      run-goes (a .args .graph .now) (a .args .plan .now) (a .args .tables .now) (a .args .text .now) (a .pre .0) (a .pre .1 .0 .1) _ (l .loop .s) (l .loop .inv .0) (l .loop .k) (d .passed .result) (w .word3 .result) (recorded (l .loop .r .leaf) (l .loop .r .end)) (recorded (e .entered .result .leaf) (e .entered .result .end)) (l .loop .inv .5) (d .passed .ensures .0 .0) (d .passed .ensures .0 .1) (d .passed .ensures .1 .0) (w .word3 .ensures .0) (e .entered .ensures) more (d .passed .ensures .1 .1 more) (o .led-on .result) (o .led-on .ensures .0) (c .if3 .left),
+      run-goes (a .args .graph .now) (a .args .plan .now) (a .args .tables .now) (a .args .text .now) (a .pre .0) (a .pre .1 .0 .1) _ (l .loop .s) (l .loop .inv .0) (l .loop .k) (d .passed .result) (w .word3 .result) (recorded (l .loop .r .leaf) (l .loop .r .end)) (recorded (e .mark-at .result .leaf) (e .mark-at .result .end)) (l .loop .inv .5) (d .passed .ensures .0 .0) (d .passed .ensures .0 .1) (d .passed .ensures .1 .0) (w .word3 .ensures .0) (e .mark-at .ensures) more (d .passed .ensures .1 .1 more) (o .step .result) (o .step .ensures .0) (c .if3 .left),
     )
 
 pub run-spec : {M : Type 1} → statement M
@@ -149,11 +149,11 @@ run-spec =
     loop-holds
     passed-requires
     word-requires-3
-    entered-requires
+    mark-at-requires
     ended-requires
     returns-2
-    shared-slice-read-led-on
-    led-on-requires
+    shared-slice-read-step
+    step-requires
     returns-3
     add-k
     loop-less

@@ -1,6 +1,6 @@
 -- By the scan's place. Assumes nothing.
 use mathlib.Core.Path.{sym, ap, _∙_}
-use Rattle.rules.specs.Graph.{graphFrom}
+use Rattle.graph_rules.specs.Graph.{graphFrom}
 use Rattle.scans.specs.Scan.{scannedBy}
 use Rattle.scans.proofs.Entries.{scan-past, scan-ends, scan-goes, scan-over}
 use borrow.Author.Needs.{needs}

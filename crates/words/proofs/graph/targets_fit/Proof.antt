@@ -8,7 +8,7 @@ use borrow.Author.Count.{below-more}
 use borrow.Author.Needs.{needs}
 use borrow.Author.Tests.{not-true, not-false}
 use lib.ListN.{getD}
-use Rattle.rules.specs.Graph.{targetFits}
+use Rattle.graph_rules.specs.Graph.{targetFits}
 use Rattle.words.proofs.Fitting.{rows-fit, rows-unfit, tested}
 use Rattle.words.proofs.graph.targets_fit.Statement.{statement}
 use Rattle.words.proofs.graph.targets_fit.Tie as tie

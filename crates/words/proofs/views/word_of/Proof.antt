@@ -3,7 +3,7 @@ use mathlib.Core.Path.{ap, _∙_}
 use Prim.Native.Nat.{ℕ}
 use native.Mathlib.Omega.{arith}
 use lib.ListN.{getD}
-use Rattle.rules.proofs.Taken.{taken-few, taken-long}
+use Rattle.graph_rules.proofs.Taken.{taken-few, taken-long}
 use Rattle.words.proofs.views.word_of.Statement.{statement}
 use Rattle.words.proofs.views.word_of.Tie as tie
 
