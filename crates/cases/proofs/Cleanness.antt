@@ -13,9 +13,9 @@ use Rattle.cases.specs.Answers.{graphOf}
 use Rattle.cases.specs.Table.{k1, k4}
 use Rattle.cases.specs.Cleanness.{cleanNumbers, zeroBack, zeroLeaf, cleanness}
 
-pub all-report : (length cleanness ≡ 15) × (map (λ c. c .got) cleanness ≡ map (λ c. c .wanted) cleanness)
+pub all-verdicts : (length cleanness ≡ 15) × (map (λ c. c .got) cleanness ≡ map (λ c. c .wanted) cleanness)
 unfolding cleanness k1 k4 zeroBack zeroLeaf cleanNumbers
-all-report = (refl, refl)
+all-verdicts = (refl, refl)
 
 -- ---- the graph of the table in which state 0 goes by `a` to state 1, the start, and all else to 0. Steps to 0 are dropped, so the root, 1, has no edge.
 

@@ -30,9 +30,10 @@ use Rattle.plans.specs.Run.{runCall}
 use Rattle.plans.proofs.Demand3.{own-alike, calls-alike}
 use Rattle.cases.specs.Answers.{costOf, refusalOf, graphOf}
 use Rattle.cases.specs.Table.{by, all, k1, k4}
+use Rattle.graph_rules.specs.Layout.{stepCount}
 
 -- a table whose state 0 has 257 steps, all to itself
-zero-step : (t : Table) → allL (eqb 0) (rowOf t 0 .steps) ≡ true → length (rowOf t 0 .steps) ≡ 257 → (c : ℕ) → c < 257 → step t 0 c ≡ 0
+zero-step : (t : Table) → allL (eqb 0) (rowOf t 0 .steps) ≡ true → length (rowOf t 0 .steps) ≡ stepCount → (c : ℕ) → c < stepCount → step t 0 c ≡ 0
 unfolding step
 zero-step t all long c h = sym (eqb-true _ _ (all-at (eqb 0) (rowOf t 0 .steps) c 0 all (omega arith)))
 
@@ -42,7 +43,7 @@ k1-zero : allL (eqb 0) (rowOf (tableOf k1) 0 .steps) ≡ true
 unfolding k1 graphOf
 k1-zero = refl
 
-k1-long : length (rowOf (tableOf k1) 0 .steps) ≡ 257
+k1-long : length (rowOf (tableOf k1) 0 .steps) ≡ stepCount
 unfolding k1 graphOf
 k1-long = refl
 
@@ -109,7 +110,7 @@ looped-zero : allL (eqb 0) (rowOf (tableOf looped) 0 .steps) ≡ true
 unfolding looped graphOf
 looped-zero = refl
 
-looped-long : length (rowOf (tableOf looped) 0 .steps) ≡ 257
+looped-long : length (rowOf (tableOf looped) 0 .steps) ≡ stepCount
 unfolding looped graphOf
 looped-long = refl
 
@@ -181,7 +182,7 @@ k4-zero : allL (eqb 0) (rowOf (tableOf k4) 0 .steps) ≡ true
 unfolding k4 graphOf
 k4-zero = refl
 
-k4-long : length (rowOf (tableOf k4) 0 .steps) ≡ 257
+k4-long : length (rowOf (tableOf k4) 0 .steps) ≡ stepCount
 unfolding k4 graphOf
 k4-long = refl
 

@@ -22,6 +22,7 @@ use Rattle.clean.specs.declared.Verdict.the-variants.{Refused}
 use Rattle.clean.specs.Answers.{verdict, cleanOf}
 use Rattle.clean.specs.Held.{lowest}
 use Rattle.clean.proofs.Lowest.{lowest-padded}
+use Rattle.graph_rules.specs.Layout.{noState, mostStates}
 
 those-map : {A : Type 0} (p : A → Bool) (f : ℕ → A) (l : List ℕ) → those p (map f l) ≡ map f (those (λ x. p (f x)) l)
 those-map p f [] = refl
@@ -34,15 +35,15 @@ those-map {A} p f (x ∷ l) = go (is (p (f x))) (those-map p f l)
 module _ (t : Table) where
   -- ---- rule 1
 
-  pub error-no-start : t .start ≡ none → errorAt t ≡ some 65535
+  pub error-no-start : t .start ≡ none → errorAt t ≡ some noState
   unfolding errorAt build
   error-no-start e = ap (λ (o : Option ℕ). firstError t (buildFrom t o (emptyLeaves t) .errors)) e
 
-  pub error-empty : (s : ℕ) → t .start ≡ some s → (emptyLeaves t ≡ [] → ⊥) → errorAt t ≡ some 65535
+  pub error-empty : (s : ℕ) → t .start ≡ some s → (emptyLeaves t ≡ [] → ⊥) → errorAt t ≡ some noState
   unfolding errorAt build
   error-empty s e n = ap (λ (o : Option ℕ). firstError t (buildFrom t o (emptyLeaves t) .errors)) e ∙ go (emptyLeaves t) n
     where
-      go : (l : List ℕ) → (l ≡ [] → ⊥) → firstError t (buildFrom t (some s) l .errors) ≡ some 65535
+      go : (l : List ℕ) → (l ≡ [] → ⊥) → firstError t (buildFrom t (some s) l .errors) ≡ some noState
       go [] n = absurd (n refl)
       go (x ∷ l) n = refl
 
@@ -51,9 +52,9 @@ module _ (t : Table) where
     abbrev states : List ℕ
     states = select (reached t s) (below (size t))
 
-    tie-place : (m : List (List ℕ)) → 0 < length m → firstError t (map disambiguation m) ≡ some (getD (those (tied t) states) 0 65535)
+    tie-place : (m : List (List ℕ)) → 0 < length m → firstError t (map disambiguation m) ≡ some (getD (those (tied t) states) 0 noState)
     tie-place [] h = absurd (omega arith)
-    tie-place (ls ∷ m) h = ap (λ (o : Option ℕ). some (getD (reachedFrom t o (tied t)) 0 65535)) e
+    tie-place (ls ∷ m) h = ap (λ (o : Option ℕ). some (getD (reachedFrom t o (tied t)) 0 noState)) e
 
     ties-place : firstError t (ties t (reached t s)) ≡ first (those (tied t) states)
     unfolding ties tied
@@ -65,7 +66,7 @@ module _ (t : Table) where
         go [] q = refl
         go (u ∷ l) q =
             let n = sorted-length (map (contenders t) (u ∷ l)) in
-            tie-place (sorted (map (contenders t) (u ∷ l))) (omega arith) ∙ ap (λ (x : List ℕ). some (getD x 0 65535)) q
+            tie-place (sorted (map (contenders t) (u ∷ l))) (omega arith) ∙ ap (λ (x : List ℕ). some (getD x 0 noState)) q
 
     pub error-ties : emptyLeaves t ≡ [] → errorAt t ≡ first (those (tied t) states)
     unfolding errorAt build
@@ -98,18 +99,18 @@ module _ (t : Table) where
 -- ---- what is found at the states of a legal table that has a start and no leaf that can be empty
 
 module _ (w : List ℕ) (legal : refusal w ≡ 0) (s : ℕ) (st : tableOf w .start ≡ some s) (set : List Bool)
-    (at : set ≡ reached (tableOf w) s ++ replicate (1024 - getD w 0 0) false) where
+    (at : set ≡ reached (tableOf w) s ++ replicate (mostStates - getD w 0 0) false) where
   lowest-states : (p : ℕ → Bool) → lowest w set p ≡ first (those p (select (reached (tableOf w) s) (below (size (tableOf w)))))
   lowest-states p =
       let n = size-is w legal in
       ap (λ (x : List Bool). lowest w x p) at
-      ∙ lowest-padded w (reached (tableOf w) s) (1024 - getD w 0 0) p (reached-length (tableOf w) (legal-shaped w legal) s st ∙ n)
+      ∙ lowest-padded w (reached (tableOf w) s) (mostStates - getD w 0 0) p (reached-length (tableOf w) (legal-shaped w legal) s st ∙ n)
       ∙ ap (λ (k : ℕ). first (those p (select (reached (tableOf w) s) (below k)))) (sym n)
 
-  pub error-found : emptyLeaves (tableOf w) ≡ [] → (r : ℕ) → orNone 65535 r ≡ lowest w set (tied (tableOf w)) → errorAt (tableOf w) ≡ orNone 65535 r
+  pub error-found : emptyLeaves (tableOf w) ≡ [] → (r : ℕ) → orNone noState r ≡ lowest w set (tied (tableOf w)) → errorAt (tableOf w) ≡ orNone noState r
   error-found none-empty r e = error-ties (tableOf w) s st none-empty ∙ sym (e ∙ lowest-states (tied (tableOf w)))
 
-  pub end-found : (r : ℕ) → orNone 65535 r ≡ lowest w set (endless (tableOf w)) → endAt (tableOf w) ≡ orNone 65535 r
+  pub end-found : (r : ℕ) → orNone noState r ≡ lowest w set (endless (tableOf w)) → endAt (tableOf w) ≡ orNone noState r
   end-found r e = end-place (tableOf w) s st ∙ sym (e ∙ lowest-states (endless (tableOf w)))
 
 -- ---- the call

@@ -17,6 +17,7 @@ use Rattle.graph_rules.specs.Graph.{orNone}
 use Rattle.graph_rules.specs.Clean.{first}
 use Rattle.graph_rules.proofs.Nones.{or-none, or-number}
 use Rattle.clean.specs.Held.{lowest}
+use Rattle.graph_rules.specs.Layout.{noState, mostStates}
 
 -- those from state s on
 unfoldable pub lowestOn : ℕ → List Bool → (ℕ → Bool) → ℕ → Option ℕ
@@ -53,13 +54,13 @@ module _ (n : ℕ) (set : List Bool) (p : ℕ → Bool) where
 
 pub record Lowest (w : List ℕ) (set : List Bool) (p : ℕ → Bool) (found s : ℕ) : Type 0 where
   pub inside : s ≤ getD w 0 0
-  pub at : orNone 65535 found ≡ lowestOn (getD w 0 0) set p s
+  pub at : orNone noState found ≡ lowestOn (getD w 0 0) set p s
 
-pub nothing-found : (w : List ℕ) (set : List Bool) (p : ℕ → Bool) → Lowest w set p 65535 (getD w 0 0)
+pub nothing-found : (w : List ℕ) (set : List Bool) (p : ℕ → Bool) → Lowest w set p noState (getD w 0 0)
 nothing-found w set p =
-    record { inside = omega arith; at = or-none 65535 65535 refl ∙ sym (on-end (getD w 0 0) set p) }
+    record { inside = omega arith; at = or-none noState noState refl ∙ sym (on-end (getD w 0 0) set p) }
 
-module _ (w : List ℕ) (few : getD w 0 0 ≤ 1024) (set : List Bool) (p : ℕ → Bool) (found s : ℕ) (some-left : 0 < s) (l : Lowest w set p found s) where
+module _ (w : List ℕ) (few : getD w 0 0 ≤ mostStates) (set : List Bool) (p : ℕ → Bool) (found s : ℕ) (some-left : 0 < s) (l : Lowest w set p found s) where
   back : lowestOn (getD w 0 0) set p (suc (s - 1)) ≡ lowestOn (getD w 0 0) set p s
   back = let e : suc (s - 1) ≡ s = omega arith in ap (lowestOn (getD w 0 0) set p) e
 
@@ -78,10 +79,10 @@ module _ (w : List ℕ) (few : getD w 0 0 ≤ 1024) (set : List Bool) (p : ℕ �
       let i = l .inside in
       record {
         inside = omega arith;
-        at = or-number 65535 (s - 1) (λ e. let e′ : s - 1 ≡ 65535 = e in omega arith) ∙ sym (on-passes (getD w 0 0) set p (s - 1) (omega arith) m q);
+        at = or-number noState (s - 1) (λ e. let e′ : s - 1 ≡ noState = e in omega arith) ∙ sym (on-passes (getD w 0 0) set p (s - 1) (omega arith) m q);
       }
 
-pub lowest-found : (w : List ℕ) (set : List Bool) (p : ℕ → Bool) (found s : ℕ) → s ≡ 0 → Lowest w set p found s → orNone 65535 found ≡ lowest w set p
+pub lowest-found : (w : List ℕ) (set : List Bool) (p : ℕ → Bool) (found s : ℕ) → s ≡ 0 → Lowest w set p found s → orNone noState found ≡ lowest w set p
 unfolding lowestOn
 lowest-found w set p found s z l =
     let e : getD w 0 0 - 0 ≡ getD w 0 0 = omega arith in

@@ -23,7 +23,7 @@ use Rattle.graph_rules.proofs.Cleanness.{byteLeaves, byte-leaves, byte-leaf}
 use Rattle.graph_rules.proofs.Flat.{step-word, head-word}
 use Rattle.graph_rules.proofs.Nones.{or-none, or-same}
 use Rattle.graph_rules.proofs.Shape.{legal-shaped, legal-width, size-is}
-use Rattle.words.specs.Places.{rowPlace}
+use Rattle.graph_rules.specs.Layout.{endStep, stepCount, noLeaf, tableRow, headPlace, mostLeaves, rowPlace}
 use Rattle.legal.proofs.Legal.{legal-means}
 use Rattle.clean.specs.Held.{LeavesOf}
 use Rattle.clean.proofs.Ties.{chain-none, chain-head}
@@ -34,19 +34,19 @@ module _ (w : List ℕ) (legal : refusal w ≡ 0) where
 
   -- ---- rule 2
 
-  row-zero : length (rowOf (tableOf w) 0 .steps) ≡ 257
+  row-zero : length (rowOf (tableOf w) 0 .steps) ≡ stepCount
   row-zero = let z = legal-means w legal .sized in legal-width w legal 0 (rw (size-is w legal) (omega arith))
 
-  zero-shown : ((c : ℕ) → c < 258 → getD w (rowPlace (getD w 2 0) 0 c) 0 ≡ 0) → zeroDead t ≡ true
+  zero-shown : ((c : ℕ) → c < tableRow → getD w (rowPlace (getD w 2 0) 0 c) 0 ≡ 0) → zeroDead t ≡ true
   unfolding zeroDead step
   zero-shown f =
       let z = legal-means w legal .sized in
       let n = row-zero in
-      let e : rowOf t 0 .head ≡ 0 = head-word w 0 (omega arith) ∙ f 257 (omega arith) in
+      let e : rowOf t 0 .head ≡ 0 = head-word w 0 (omega arith) ∙ f headPlace (omega arith) in
       and-intro (eqb (length (chain t 0)) 0) _ (ap (λ (l : List ℕ). eqb (length l) 0) (chain-none t 0 e))
       (all-intro (eqb 0) (rowOf t 0 .steps) 0 (λ c h. eq-eqb 0 _ (sym (step-word w 0 c (omega arith) (omega arith) ∙ f c (omega arith)))))
 
-  zero-means : zeroDead t ≡ true → (c : ℕ) → c < 258 → getD w (rowPlace (getD w 2 0) 0 c) 0 ≡ 0
+  zero-means : zeroDead t ≡ true → (c : ℕ) → c < tableRow → getD w (rowPlace (getD w 2 0) 0 c) 0 ≡ 0
   unfolding zeroDead step
   zero-means e c h =
       let z = legal-means w legal .sized in
@@ -58,7 +58,7 @@ module _ (w : List ℕ) (legal : refusal w ≡ 0) where
       (λ b. sym (step-word w 0 c (omega arith) b) ∙ sym (eqb-true 0 _ (all-at (eqb 0) (rowOf t 0 .steps) c 0 steps (omega arith))))
       (eq-or-lt-of-le (le-of-suc-le-suc h))
 
-  pub zero-judged : Judged (zeroDead t) 258 (λ c. getD w (rowPlace (getD w 2 0) 0 c) 0 ≡ 0)
+  pub zero-judged : Judged (zeroDead t) tableRow (λ c. getD w (rowPlace (getD w 2 0) 0 c) 0 ≡ 0)
   zero-judged = record { all = zero-shown; each = zero-means }
 
   -- ---- rule 3
@@ -74,38 +74,38 @@ module _ (w : List ℕ) (legal : refusal w ≡ 0) where
     inside : s < size t
     inside = rw (size-is w legal) h
 
-    by-leaf : (b : ℕ) → b < 256 → orNone 255 (leafBy b) ≡ getD (byteLeaves t (legal-shaped w legal) s inside) b none
+    by-leaf : (b : ℕ) → b < 256 → orNone noLeaf (leafBy b) ≡ getD (byteLeaves t (legal-shaped w legal) s inside) b none
     by-leaf b k =
         held _ (by-low b k) ∙ ap (leafOf t) (sym (step-word w s b h (omega arith))) ∙ sym (byte-leaf t (legal-shaped w legal) s inside b k)
 
-    pub bytes-same : ((b : ℕ) → b < 256 → leafBy b ≡ leafBy 0) → orNone 255 (leafBy 0) ≡ bytesLeaf t s
+    pub bytes-same : ((b : ℕ) → b < 256 → leafBy b ≡ leafBy 0) → orNone noLeaf (leafBy 0) ≡ bytesLeaf t s
     unfolding bytesLeaf
     bytes-same f =
         let n = byte-leaves t (legal-shaped w legal) s inside in
-        sym (agreed-all (byteLeaves t (legal-shaped w legal) s inside) (orNone 255 (leafBy 0)) (omega arith)
-        (λ b k. let k′ : b < 256 = omega arith in sym (by-leaf b k′) ∙ ap (orNone 255) (f b k′)))
+        sym (agreed-all (byteLeaves t (legal-shaped w legal) s inside) (orNone noLeaf (leafBy 0)) (omega arith)
+        (λ b k. let k′ : b < 256 = omega arith in sym (by-leaf b k′) ∙ ap (orNone noLeaf) (f b k′)))
 
-    pub bytes-differ : (b : ℕ) → b < 256 → (leafBy b ≡ leafBy 0 → ⊥) → orNone 255 255 ≡ bytesLeaf t s
+    pub bytes-differ : (b : ℕ) → b < 256 → (leafBy b ≡ leafBy 0 → ⊥) → orNone noLeaf noLeaf ≡ bytesLeaf t s
     unfolding bytesLeaf
     bytes-differ b k d =
         let n = byte-leaves t (legal-shaped w legal) s inside in
-        or-none 255 255 refl
+        or-none noLeaf noLeaf refl
         ∙ sym (agreed-none (byteLeaves t (legal-shaped w legal) s inside) b (omega arith)
-        (λ q. d (or-same 255 (leafBy b) (leafBy 0) (by-leaf b k ∙ q ∙ sym (by-leaf 0 (omega arith))))))
+        (λ q. d (or-same noLeaf (leafBy b) (leafBy 0) (by-leaf b k ∙ q ∙ sym (by-leaf 0 (omega arith))))))
 
   -- by the end step's word, and the leaf of all that the bytes lead to
   module _ (s : ℕ) (h : s < getD w 0 0) where
-    end-word : step t s 256 ≡ getD w (rowPlace (getD w 2 0) s 256) 0
-    end-word = step-word w s 256 h (omega arith)
+    end-word : step t s endStep ≡ getD w (rowPlace (getD w 2 0) s endStep) 0
+    end-word = step-word w s endStep h (omega arith)
 
-    pub endless-not : (getD w (rowPlace (getD w 2 0) s 256) 0 ≡ 0 → ⊥) → endless t s ≡ false
+    pub endless-not : (getD w (rowPlace (getD w 2 0) s endStep) 0 ≡ 0 → ⊥) → endless t s ≡ false
     unfolding endless
-    endless-not n = and-right-false (present (bytesLeaf t s)) _ (ne-eqb (step t s 256) 0 (λ e. n (sym end-word ∙ e)))
+    endless-not n = and-right-false (present (bytesLeaf t s)) _ (ne-eqb (step t s endStep) 0 (λ e. n (sym end-word ∙ e)))
 
-    pub endless-leaf : getD w (rowPlace (getD w 2 0) s 256) 0 ≡ 0 → (r : ℕ) → orNone 255 r ≡ bytesLeaf t s → not (eqb r 255) ≡ endless t s
+    pub endless-leaf : getD w (rowPlace (getD w 2 0) s endStep) 0 ≡ 0 → (r : ℕ) → orNone noLeaf r ≡ bytesLeaf t s → not (eqb r mostLeaves) ≡ endless t s
     unfolding endless
-    endless-leaf z r at = go (is (eqb r 255)) ∙ ap (λ (o : Option ℕ). present o && eqb (step t s 256) 0) at
+    endless-leaf z r at = go (is (eqb r noLeaf)) ∙ ap (λ (o : Option ℕ). present o && eqb (step t s endStep) 0) at
       where
-        go : Is (eqb r 255) → not (eqb r 255) ≡ (present (orNone 255 r) && eqb (step t s 256) 0)
+        go : Is (eqb r noLeaf) → not (eqb r noLeaf) ≡ (present (orNone noLeaf r) && eqb (step t s endStep) 0)
         go (yes-is q) = rw q
-        go (no-is q) = rw q (sym (eq-eqb (step t s 256) 0 (end-word ∙ z)))
+        go (no-is q) = rw q (sym (eq-eqb (step t s endStep) 0 (end-word ∙ z)))

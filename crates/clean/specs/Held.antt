@@ -10,10 +10,11 @@ use Rattle.graph_rules.specs.Table.{tableOf}
 use Rattle.graph_rules.specs.Graph.{orNone}
 use Rattle.graph_rules.specs.Build.{leafOf}
 use Rattle.graph_rules.specs.Clean.{first}
+use Rattle.graph_rules.specs.Layout.{noLeaf}
 
 -- each state's leaf, 255 for none
 abbrev pub LeavesOf : List ℕ → List ℕ → Type 0
-LeavesOf w leaves = (s : ℕ) → s < getD w 0 0 → orNone 255 (getD leaves s 0) ≡ leafOf (tableOf w) s
+LeavesOf w leaves = (s : ℕ) → s < getD w 0 0 → orNone noLeaf (getD leaves s 0) ≡ leafOf (tableOf w) s
 
 -- the lowest of the table's states that is in a set and passes a test
 abbrev pub lowest : List ℕ → List Bool → (ℕ → Bool) → Option ℕ

@@ -16,6 +16,7 @@ use words::table::leaves;
 use words::table::row_word;
 use words::table::start;
 use words::table::states;
+ghost use Rattle.graph_rules.specs.Layout.{noState, noLeaf};
 
 // Clean; or the rule, 1 to 3, that the table breaks first, and the lowest state where, 65,535 if the breach belongs to no state; or 1 to 7.
 pub enum Verdict {
@@ -56,7 +57,7 @@ fn tied(table: &[u16], leaf: &[u8; 1024], s: usize) -> bool
 fn lowest_tied(table: &[u16], leaf: &[u8; 1024], set: &[bool; 1024]) -> u16
     requires { ⌜ refusal (now table) ≡ 0 ⌝ }
     requires { ⌜ LeavesOf (now table) (now leaf) ⌝ }
-    ensures { λ r. ⌜ orNone 65535 r ≡ lowest (now (table .entry)) (now (set .entry)) (tied (tableOf (now (table .entry)))) ⌝ }
+    ensures { λ r. ⌜ orNone noState r ≡ lowest (now (table .entry)) (now (set .entry)) (tied (tableOf (now (table .entry)))) ⌝ }
 {
     let mut found: u16 = 65535;
     let mut s = states(table);
@@ -92,7 +93,7 @@ fn bytes_leaf(table: &[u16], leaf: &[u8; 1024], s: usize) -> u8
     requires { ⌜ refusal (now table) ≡ 0 ⌝ }
     requires { ⌜ LeavesOf (now table) (now leaf) ⌝ }
     requires { ⌜ s < getD (now table) 0 0 ⌝ }
-    ensures { λ r. ⌜ orNone 255 r ≡ bytesLeaf (tableOf (now (table .entry))) s ⌝ }
+    ensures { λ r. ⌜ orNone noLeaf r ≡ bytesLeaf (tableOf (now (table .entry))) s ⌝ }
 {
     let m = leaves(table);
     let first = leaf[row_word(table, m, s, 0)];
@@ -123,7 +124,7 @@ fn endless(table: &[u16], leaf: &[u8; 1024], s: usize) -> bool
 fn lowest_endless(table: &[u16], leaf: &[u8; 1024], set: &[bool; 1024]) -> u16
     requires { ⌜ refusal (now table) ≡ 0 ⌝ }
     requires { ⌜ LeavesOf (now table) (now leaf) ⌝ }
-    ensures { λ r. ⌜ orNone 65535 r ≡ lowest (now (table .entry)) (now (set .entry)) (endless (tableOf (now (table .entry)))) ⌝ }
+    ensures { λ r. ⌜ orNone noState r ≡ lowest (now (table .entry)) (now (set .entry)) (endless (tableOf (now (table .entry)))) ⌝ }
 {
     let mut found: u16 = 65535;
     let mut s = states(table);

@@ -18,6 +18,7 @@ use Rattle.graph_rules.specs.Graph.{State, Graph, blank, stateOf, to, acceptOf,
 use Rattle.graph_rules.specs.Build.{covered}
 use Rattle.graph_rules.proofs.Views.{edge-leads, edge-within, leads-edge}
 use Rattle.words.proofs.Edges.{Pass, pass-none, pass-more, pass-skip, pass-row}
+use Rattle.graph_rules.specs.Layout.{mostStates}
 
 -- ---- covered
 
@@ -49,21 +50,21 @@ module _ (g : Graph) where
   -- ---- the pass: what stands in the flags before edge c of state p
 
   pub record Passed (p c : ℕ) (out : List Bool) : Type 0 where
-    pub len : length out ≡ 1024
+    pub len : length out ≡ mostStates
     pub pass : Pass Uncovers p c (In out)
 
-  pub passed-none : Passed 0 0 (replicate 1024 false)
+  pub passed-none : Passed 0 0 (replicate mostStates false)
   passed-none =
       record {
-        len = length-replicate {A = Bool} 1024 false;
-        pass = pass-none Uncovers (In (replicate 1024 false)) (λ u i. false≢true (sym (none-in 1024 u) ∙ i));
+        len = length-replicate {A = Bool} mostStates false;
+        pass = pass-none Uncovers (In (replicate mostStates false)) (λ u i. false≢true (sym (none-in mostStates u) ∙ i));
       }
 
   module _ (p c : ℕ) (out : List Bool) (v : Passed p c out) where
     pub passed-skip : ((u : ℕ) → Uncovers p c u → ⊥) → Passed p (c + 1) out
     passed-skip f = record { len = v .len; pass = pass-skip Uncovers p c (In out) (v .pass) f }
 
-    pub passed-mark : (u : ℕ) → u < 1024 → Uncovers p c u → Passed p (c + 1) (set out u true)
+    pub passed-mark : (u : ℕ) → u < mostStates → Uncovers p c u → Passed p (c + 1) (set out u true)
     passed-mark u h e =
         record {
           len = length-set out u true ∙ v .len;
@@ -81,19 +82,19 @@ module _ (g : Graph) where
       map-at (λ s. not (covered g s)) (below n) u 0 false (rw (length-tab 0 n (λ s. s)) h)
       ∙ ap (λ (s : ℕ). not (covered g s)) (getD-tab0 n (λ s. s) u 0 h)
 
-  pub uncovered-at : (out : List Bool) (n : ℕ) → out ≡ map (λ s. not (covered g s)) (below n) ++ replicate (1024 - n) false
+  pub uncovered-at : (out : List Bool) (n : ℕ) → out ≡ map (λ s. not (covered g s)) (below n) ++ replicate (mostStates - n) false
       → (u : ℕ) → u < n → getD out u false ≡ not (covered g u)
-  uncovered-at out n e u h = ap (λ (l : List Bool). getD l u false) e ∙ padding-at false (map (λ s. not (covered g s)) (below n)) (1024 - n) u ∙ test-at n u h
+  uncovered-at out n e u h = ap (λ (l : List Bool). getD l u false) e ∙ padding-at false (map (λ s. not (covered g s)) (below n)) (mostStates - n) u ∙ test-at n u h
 
   -- all have been passed
-  pub passed-all : (out : List Bool) (n : ℕ) → length (g .states) ≡ n → n ≤ 1024 → ((q d u : ℕ) → to g q d ≡ some u → u < n) → Passed n 0 out
-      → out ≡ map (λ s. not (covered g s)) (below n) ++ replicate (1024 - n) false
+  pub passed-all : (out : List Bool) (n : ℕ) → length (g .states) ≡ n → n ≤ mostStates → ((q d u : ℕ) → to g q d ≡ some u → u < n) → Passed n 0 out
+      → out ≡ map (λ s. not (covered g s)) (below n) ++ replicate (mostStates - n) false
   passed-all out n size few closed v =
       let tests = map (λ s. not (covered g s)) (below n) in
       let long : length tests ≡ n = length-map (below n) (λ s. not (covered g s)) ∙ length-tab 0 n (λ s. s) in
-      padded false out tests 1024 (v .len) (omega arith) (λ u.
+      padded false out tests mostStates (v .len) (omega arith) (λ u.
       ⊎-elim (λ h. inside u h (is (getD out u false)) ∙ sym (test-at n u h)) (λ h. outside u h (is (getD out u false)) ∙ sym (List·getD-eq-default tests false (rw long h))) (lt-or-le u n))
-      ∙ ap (λ (k : ℕ). tests ++ replicate (1024 - k) false) long
+      ∙ ap (λ (k : ℕ). tests ++ replicate (mostStates - k) false) long
     where
       inside : (u : ℕ) → u < n → Is (getD out u false) → getD out u false ≡ not (covered g u)
       inside u h (yes-is i) = let (q, d, x) = v .pass .sound u i in i ∙ ap not (sym (uncovers q d u x))

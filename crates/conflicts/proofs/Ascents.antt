@@ -12,13 +12,14 @@ use lib.ListN.{length, getD}
 use Rattle.lists.specs.Lists.{allL, those}
 use Rattle.lists.proofs.Bools.{Is, is, yes-is, no-is, and-intro}
 use Rattle.lists.proofs.Elements.{eqb-sound}
-use Rattle.lists.proofs.Distinct.{those-keep}
+use Rattle.lists.proofs.Those.{those-keep}
 use Rattle.lists.proofs.Rising.{Rising, rising-nil, rising-cons, rising-those, rising-few}
 use Rattle.graph_rules.specs.Table.{Table, tableOf, rowOf, matchOf, refusal}
 use Rattle.graph_rules.specs.Build.{chain, contenders}
 use Rattle.leaves.specs.Chains.{records, priorityAt, tieFrom, topOf}
 use Rattle.leaves.proofs.Records.{sizes, head-below, leaf-below, next-below, leaf-rises}
 use Rattle.leaves.proofs.Contenders.{leafOfRecord, priorityOf, chain-from, those-leaf, records-end, records-step, contenders-top, top-low}
+use Rattle.graph_rules.specs.Layout.{noLeaf}
 
 module _ (w : List ℕ) (legal : refusal w ≡ 0) where
   abbrev t : Table
@@ -77,7 +78,7 @@ module _ (w : List ℕ) (legal : refusal w ≡ 0) where
   pub chain-rises : (s : ℕ) → Rising (chain t s)
   chain-rises s = rw (chain-leaves s) (climbs (rowOf t s .head) (rowOf t s .head) (omega arith) (head-below w legal s) .rises)
 
-  pub chain-few : (s : ℕ) → length (chain t s) ≤ 255
+  pub chain-few : (s : ℕ) → length (chain t s) ≤ noLeaf
   chain-few s =
       let c = climbs (rowOf t s .head) (rowOf t s .head) (omega arith) (head-below w legal s) in
       let f = rising-few (getD w 2 0) (leaves (rowOf t s .head)) (c .rises) (c .low) in
@@ -94,9 +95,9 @@ module _ (w : List ℕ) (legal : refusal w ≡ 0) where
   tie-rises i h = rw (tie-leaves i) (rising-those _ (leaves i) (climbs i i (omega arith) h .rises))
 
   pub tie-below : (i : ℕ) → i ≤ getD w 3 0 → allL (λ l. ltb l (getD w 2 0)) (tieFrom t i) ≡ true
-  tie-below i h = rw (tie-leaves i) (those-keep _ eqb-sound _ (λ l. ltb l (getD w 2 0)) (leaves i) (climbs i i (omega arith) h .low))
+  tie-below i h = rw (tie-leaves i) (those-keep _ (λ l. ltb l (getD w 2 0)) (leaves i) (climbs i i (omega arith) h .low))
 
-  pub tie-few : (i : ℕ) → i ≤ getD w 3 0 → length (tieFrom t i) ≤ 255
+  pub tie-few : (i : ℕ) → i ≤ getD w 3 0 → length (tieFrom t i) ≤ noLeaf
   tie-few i h =
       let f = rising-few (getD w 2 0) (tieFrom t i) (tie-rises i h) (tie-below i h) in
       let z = sizes w legal in
@@ -105,5 +106,5 @@ module _ (w : List ℕ) (legal : refusal w ≡ 0) where
   pub contenders-rise : (s : ℕ) → Rising (contenders t s)
   contenders-rise s = rw (contenders-top w legal s) (tie-rises (topOf t s) (top-low w legal s))
 
-  pub contenders-few : (s : ℕ) → length (contenders t s) ≤ 255
+  pub contenders-few : (s : ℕ) → length (contenders t s) ≤ noLeaf
   contenders-few s = rw (contenders-top w legal s) (tie-few (topOf t s) (top-low w legal s))

@@ -18,6 +18,7 @@ use Rattle.graph_rules.proofs.Shape.{size-is}
 use Rattle.leaves.specs.Chains.{topOf, nextTied, tieFrom}
 use Rattle.conflicts.specs.Slots.{tiedAt}
 use Rattle.leaves.proofs.Contenders.{contenders-top, tie-end, tie-step, next-tied-low, top-low}
+use Rattle.graph_rules.specs.Layout.{stepCount, noLeaf}
 
 -- ---- a state of a set that is tied
 
@@ -175,7 +176,7 @@ module _ (w : List ℕ) (legal : refusal w ≡ 0) (set : List Bool) (s : ℕ) (s
 pub record Counted (w : List ℕ) (set : List Bool) (s errors words : ℕ) : Type 0 where
   pub inside : s ≤ getD w 0 0
   pub few : errors + s ≤ getD w 0 0
-  pub short : words ≤ 257 * errors
+  pub short : words ≤ stepCount * errors
   pub number : errors ≡ length (tiesOn (tableOf w) (getD w 0 0) set s)
   pub sum : words ≡ total wordsOf (tiesOn (tableOf w) (getD w 0 0) set s)
 
@@ -191,7 +192,7 @@ module _ (w : List ℕ) (set : List Bool) (s errors words : ℕ) (some : 0 < s) 
       let f = c .few in
       record { inside = omega arith; few = omega arith; short = c .short; number = c .number ∙ sym (ap length e); sum = c .sum ∙ sym (ap (total wordsOf) e) }
 
-  pub counted-more : (ls : List ℕ) (k : ℕ) → k ≡ length ls → k ≤ 255
+  pub counted-more : (ls : List ℕ) (k : ℕ) → k ≡ length ls → k ≤ noLeaf
       → tiesOn (tableOf w) (getD w 0 0) set (s - 1) ≡ ls ∷ tiesOn (tableOf w) (getD w 0 0) set s → Counted w set (s - 1) (errors + 1) (words + (2 + k))
   counted-more ls k q b e =
       let i = c .inside in

@@ -17,21 +17,22 @@ use Rattle.conflicts.specs.Slots.{slot, putIn, Held, InOrder}
 use Rattle.conflicts.proofs.Conflicts.{tiesOn, ties-end, ties-sorted}
 use Rattle.leaves.proofs.Records.{sizes}
 use Rattle.conflicts.proofs.Slotted.{put-length, put-insert, put-held}
+use Rattle.graph_rules.specs.Layout.{mostStates}
 
 pub record Sorting (w : List ℕ) (set : List Bool) (s : ℕ) (order : List ℕ) (count : ℕ) : Type 0 where
   pub inside : s ≤ getD w 0 0
   pub few : count + s ≤ getD w 0 0
-  pub long : length order ≡ 1024
+  pub long : length order ≡ mostStates
   pub held : Held (getD w 3 0) order count
   pub ties : map (tieFrom (tableOf w)) (take count order) ≡ sorted (tiesOn (tableOf w) (getD w 0 0) set s)
 
 -- nothing is held yet, in an array of zeros
-pub sorting-none : (w : List ℕ) (set : List Bool) (n : ℕ) → n ≡ getD w 0 0 → Sorting w set n (replicate 1024 0) 0
+pub sorting-none : (w : List ℕ) (set : List Bool) (n : ℕ) → n ≡ getD w 0 0 → Sorting w set n (replicate mostStates 0) 0
 sorting-none w set n e =
     record {
       inside = omega arith;
       few = omega arith;
-      long = length-replicate {A = ℕ} 1024 0;
+      long = length-replicate {A = ℕ} mostStates 0;
       held = record { few = omega arith; long = omega arith; low = λ j h. absurd (not-suc-le-zero h) };
       ties = sym (ap sorted (ap (tiesOn (tableOf w) (getD w 0 0) set) e ∙ ties-end (tableOf w) (getD w 0 0) set));
     }
@@ -40,7 +41,7 @@ module _ (w : List ℕ) (legal : refusal w ≡ 0) (set : List Bool) (s : ℕ) (o
   abbrev tie : ℕ → List ℕ
   tie i = tieFrom (tableOf w) i
 
-  sorting-few : count ≤ 1024
+  sorting-few : count ≤ mostStates
   sorting-few = let f = c .few in let z = sizes w legal in omega arith
 
   pub sorting-order : InOrder (tableOf w) (getD w 3 0) order count

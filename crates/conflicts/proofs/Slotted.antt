@@ -15,6 +15,7 @@ use Rattle.graph_rules.specs.Table.{tableOf, matchOf, refusal}
 use Rattle.leaves.specs.Chains.{nextTied, tieFrom}
 use Rattle.conflicts.specs.Slots.{slot, putIn, Held}
 use Rattle.leaves.proofs.Contenders.{tie-end, tie-step}
+use Rattle.graph_rules.specs.Layout.{mostStates}
 
 -- ---- two ties, by their records
 
@@ -190,7 +191,7 @@ module _ (l : List ℕ) (k p v : ℕ) (low : p ≤ k) (room : k < length l) wher
       ∙ sym i
       ∙ ap (insert (f v)) (sym q)
 
-  pub put-held : (r : ℕ) → Held r l k → v ≤ r → k < 1024 → Held r (putIn l k p v) (k + 1)
+  pub put-held : (r : ℕ) → Held r l k → v ≤ r → k < mostStates → Held r (putIn l k p v) (k + 1)
   put-held r h b few = record { few = omega arith; long = let e = put-length in omega arith; low = λ j g. subst (λ (x : ℕ). x ≤ r) (sym (here j g)) (go j g (order j p)) }
     where
       front : List ℕ

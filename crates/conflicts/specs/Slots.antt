@@ -9,6 +9,7 @@ use Rattle.lists.specs.Lists.{before}
 use Rattle.graph_rules.specs.Table.{Table}
 use Rattle.graph_rules.specs.Build.{contenders}
 use Rattle.leaves.specs.Chains.{topOf, tieFrom}
+use Rattle.graph_rules.specs.Layout.{mostStates}
 
 -- the record where the tie of state s of a set begins; 0: it has none, or is not in the set
 unfoldable pub tiedAt : Table → List Bool → ℕ → ℕ
@@ -25,7 +26,7 @@ putIn l k p v = take p l ++ (v ∷ (take (k - p) (drop p l) ++ drop (suc k) l))
 
 -- the first k are 0 or numbers of the r records
 pub record Held (r : ℕ) (l : List ℕ) (k : ℕ) : Type 0 where
-  pub few : k ≤ 1024
+  pub few : k ≤ mostStates
   pub long : k ≤ length l
   pub low : (j : ℕ) → j < k → getD l j 0 ≤ r
 

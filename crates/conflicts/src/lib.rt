@@ -17,6 +17,7 @@ use leaves::top;
 use words::table::leaf_word;
 use words::table::leaves;
 use words::table::states;
+ghost use Rattle.graph_rules.specs.Layout.{mostStates, noLeaf};
 
 // The record where the tie of state s begins; 0 if it has none, or is not in the set.
 fn tied(table: &[u16], set: &[bool; 1024], s: usize) -> usize
@@ -41,7 +42,7 @@ fn tied(table: &[u16], set: &[bool; 1024], s: usize) -> usize
 fn tie_length(table: &[u16], i: usize) -> usize
     requires { ⌜ refusal (now table) ≡ 0 ⌝ }
     requires { ⌜ i ≤ getD (now table) 3 0 ⌝ }
-    ensures { λ r. ⌜ (r ≡ length (tieFrom (tableOf (now (table .entry))) i)) × (r ≤ 255) ⌝ }
+    ensures { λ r. ⌜ (r ≡ length (tieFrom (tableOf (now (table .entry))) i)) × (r ≤ noLeaf) ⌝ }
 {
     let mut number: usize = 0;
     let mut j = i;
@@ -109,7 +110,7 @@ fn tie_before(table: &[u16], a: usize, b: usize) -> bool
 // before. By halving, so that a tie is compared with ten others at most.
 fn slot_of(table: &[u16], order: &[u16; 1024], count: usize, i: usize) -> usize
     requires { ⌜ refusal (now table) ≡ 0 ⌝ }
-    requires { ⌜ length (now order) ≡ 1024 ⌝ }
+    requires { ⌜ length (now order) ≡ mostStates ⌝ }
     requires { ⌜ i ≤ getD (now table) 3 0 ⌝ }
     requires { ⌜ InOrder (tableOf (now table)) (getD (now table) 3 0) (now order) count ⌝ }
     ensures { λ r. ⌜ (r ≡ slot (tieFrom (tableOf (now (table .entry))) i) (map (tieFrom (tableOf (now (table .entry)))) (take count (now (order .entry))))) × (r ≤ count) ⌝ }
@@ -129,8 +130,8 @@ fn slot_of(table: &[u16], order: &[u16; 1024], count: usize, i: usize) -> usize
 
 // v at place p, and the elements from p up to `count` one place on.
 fn put_in(order: &mut [u16; 1024], count: usize, p: usize, v: u16)
-    requires { ⌜ length (now order) ≡ 1024 ⌝ }
-    requires { ⌜ count < 1024 ⌝ }
+    requires { ⌜ length (now order) ≡ mostStates ⌝ }
+    requires { ⌜ count < mostStates ⌝ }
     requires { ⌜ p ≤ count ⌝ }
     ensures { λ _. ⌜ now (order .exit) ≡ putIn (now (order .entry)) count p v ⌝ }
 {

@@ -12,6 +12,7 @@ use Rattle.graph_rules.proofs.Taken.{taken-long}
 use Rattle.display.specs.Text.{bytes, after}
 use Rattle.display.specs.Display.{firstLine, edgeLines, endLines, stateText}
 use Rattle.display.proofs.Joins.{after-append}
+use Rattle.graph_rules.specs.Layout.{endStep, noState, marksPlace, graphPlace, noLeaf, acceptIn, earlyIn}
 
 -- a state's text: the first line, the edges' lines, the end's, and the last
 abbrev four : ℕ → ℕ → State → Option ℕ → Option ℕ → Option ℕ → List ℕ
@@ -29,9 +30,9 @@ text-parts n s st =
 module _ (w : List ℕ) (taken : graphFits w ≡ true) (s : ℕ) (h : s < getD w 0 0) where
   -- state s with these marks and this end word
   abbrev pub fourParts : ℕ → ℕ → List ℕ
-  fourParts marks end = four (getD w 0 0) s (stateOf (graphFrom w) s) (orNone 255 (marks % 256)) (orNone 255 (marks / 256)) (orNone 65535 end)
+  fourParts marks end = four (getD w 0 0) s (stateOf (graphFrom w) s) (orNone noLeaf (acceptIn marks)) (orNone noLeaf (earlyIn marks)) (orNone noState end)
 
-  pub state-parts : (marks end : ℕ) → marks ≡ getD w (2 + 258 * s + 257) 0 → end ≡ getD w (2 + 258 * s + 256) 0
+  pub state-parts : (marks end : ℕ) → marks ≡ getD w (graphPlace s marksPlace) 0 → end ≡ getD w (graphPlace s endStep) 0
       → stateText (getD w 0 0) s (stateOf (graphFrom w) s) ≡ fourParts marks end
   unfolding to acceptOf earlyOf
   state-parts marks end m e =
@@ -39,6 +40,6 @@ module _ (w : List ℕ) (taken : graphFits w ≡ true) (s : ℕ) (h : s < getD w
       let st = stateOf (graphFrom w) s in
       let long = taken-long w taken in
       text-parts n s st
-      ∙ ap (λ (o : Option ℕ). four n s st o (st .early) (getD (st .steps) 256 none)) (from-accept w long s h ∙ ap (λ (x : ℕ). orNone 255 (x % 256)) (sym m))
-      ∙ ap (λ (o : Option ℕ). four n s st (orNone 255 (marks % 256)) o (getD (st .steps) 256 none)) (from-early w long s h ∙ ap (λ (x : ℕ). orNone 255 (x / 256)) (sym m))
-      ∙ ap (four n s st (orNone 255 (marks % 256)) (orNone 255 (marks / 256))) (from-to w long s h 256 (omega arith) ∙ ap (orNone 65535) (sym e))
+      ∙ ap (λ (o : Option ℕ). four n s st o (st .early) (getD (st .steps) 256 none)) (from-accept w long s h ∙ ap (λ (x : ℕ). orNone noLeaf (acceptIn x)) (sym m))
+      ∙ ap (λ (o : Option ℕ). four n s st (orNone noLeaf (acceptIn marks)) o (getD (st .steps) 256 none)) (from-early w long s h ∙ ap (λ (x : ℕ). orNone noLeaf (earlyIn x)) (sym m))
+      ∙ ap (four n s st (orNone noLeaf (acceptIn marks)) (orNone noLeaf (earlyIn marks))) (from-to w long s h endStep (omega arith) ∙ ap (orNone noState) (sym e))

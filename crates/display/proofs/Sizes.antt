@@ -23,6 +23,7 @@ use Rattle.display.proofs.Joins.{joined-after}
 use Rattle.display.proofs.Parts.{state-parts}
 use Rattle.display.proofs.States.{textOf, display-all}
 use Rattle.display.proofs.Members.{total, members, all-members, some-member}
+use Rattle.graph_rules.specs.Layout.{endStep, noState, marksPlace, graphPlace, noLeaf, acceptIn, earlyIn}
 
 -- ---- the edges
 
@@ -65,15 +66,15 @@ module _ (st : State) where
   edges-size n h =
       let l = lines-size 0 n (omega arith) in
       let m = all-members (bytesOf st) 0 n in
-      let t = length-take 256 (st .steps) in
+      let t = length-take endStep (st .steps) in
       omega arith
 
 -- ---- the other lines
 
-mark-size : (name : List ℕ) (x : ℕ) → x < 1000 → length (markText name (orNone 255 x)) ≤ length name + 5
+mark-size : (name : List ℕ) (x : ℕ) → x < 1000 → length (markText name (orNone noLeaf x)) ≤ length name + 5
 mark-size name x h = go (is (eqb x 255))
   where
-    go : Is (eqb x 255) → length (markText name (orNone 255 x)) ≤ length name + 5
+    go : Is (eqb x 255) → length (markText name (orNone noLeaf x)) ≤ length name + 5
     go (yes-is q) = rw q (omega arith)
     go (no-is q) =
         let d = below-thousand x h in
@@ -81,11 +82,11 @@ mark-size name x h = go (is (eqb x 255))
         let n = length-append name (decimal x ++ bytes ") ") in
         rw q (omega arith)
 
-first-size : (s a e : ℕ) → s < 10000 → a < 1000 → e < 1000 → length (firstLine s (orNone 255 a) (orNone 255 e)) ≤ 51
+first-size : (s a e : ℕ) → s < 10000 → a < 1000 → e < 1000 → length (firstLine s (orNone noLeaf a) (orNone noLeaf e)) ≤ 51
 unfolding firstLine
 first-size s a e h k l =
-    let accept = markText (bytes "accept(") (orNone 255 a) in
-    let early = markText (bytes "early(") (orNone 255 e) in
+    let accept = markText (bytes "accept(") (orNone noLeaf a) in
+    let early = markText (bytes "early(") (orNone noLeaf e) in
     let i = below-ten-thousand s h in
     let j = mark-size (bytes "accept(") a k in
     let m = mark-size (bytes "early(") e l in
@@ -94,28 +95,28 @@ first-size s a e h k l =
     let r = length-append early (bytes ") {") in
     omega arith
 
-end-size : (x : ℕ) → (x < 10000) ⊎ (x ≡ 65535) → length (after (bytes "\n") (endLines (orNone 65535 x))) ≤ 21
-end-size x h = go (is (eqb x 65535)) h
+end-size : (x : ℕ) → (x < 10000) ⊎ (x ≡ noState) → length (after (bytes "\n") (endLines (orNone noState x))) ≤ 21
+end-size x h = go (is (eqb x noState)) h
   where
-    go : Is (eqb x 65535) → (x < 10000) ⊎ (x ≡ 65535) → length (after (bytes "\n") (endLines (orNone 65535 x))) ≤ 21
+    go : Is (eqb x noState) → (x < 10000) ⊎ (x ≡ noState) → length (after (bytes "\n") (endLines (orNone noState x))) ≤ 21
     go (yes-is q) h = rw q (omega arith)
     go (no-is q) (inl l) = let d = below-ten-thousand x l in let n = length-append (decimal x) [] in rw q (omega arith)
-    go (no-is q) (inr e) = absurd (eqb-false x 65535 q e)
+    go (no-is q) (inr e) = absurd (eqb-false x noState q e)
 
 -- ---- a state, of words that 12 takes
 
 module _ (w : List ℕ) (taken : graphFits w ≡ true) (small : (i : ℕ) → getD w i 0 < 65536) where
   pub state-size : (s : ℕ) → s < getD w 0 0 → length (stateText (getD w 0 0) s (stateOf (graphFrom w) s)) ≤ 6476
   state-size s h =
-      let marks = getD w (2 + 258 * s + 257) 0 in
-      let end = getD w (2 + 258 * s + 256) 0 in
-      let first = firstLine s (orNone 255 (marks % 256)) (orNone 255 (marks / 256)) in
+      let marks = getD w (graphPlace s marksPlace) 0 in
+      let end = getD w (graphPlace s endStep) 0 in
+      let first = firstLine s (orNone noLeaf (acceptIn marks)) (orNone noLeaf (earlyIn marks)) in
       let edges = after (bytes "\n") (edgeLines (getD w 0 0) (stateOf (graphFrom w) s)) in
-      let last = after (bytes "\n") (endLines (orNone 65535 end)) in
+      let last = after (bytes "\n") (endLines (orNone noState end)) in
       let few = taken-few w taken in
       let sum : length (stateText (getD w 0 0) s (stateOf (graphFrom w) s)) ≡ length first + (length edges + (length last + 4)) =
       ap length (state-parts w taken s h marks end refl refl) ∙ simp length-append in
-      let i : length first ≤ 51 = first-size s (marks % 256) (marks / 256) (omega arith) (omega arith) (let b = small (2 + 258 * s + 257) in omega arith) in
+      let i : length first ≤ 51 = first-size s (acceptIn marks) (earlyIn marks) (omega arith) (omega arith) (let b = small (graphPlace s marksPlace) in omega arith) in
       let j : length edges ≤ 6400 = edges-size (stateOf (graphFrom w) s) (getD w 0 0) (omega arith) in
       let k : length last ≤ 21 = end-size end (⊎-elim (λ l. inl (omega arith)) inr (taken-target w taken s 256 h (omega arith))) in
       omega arith

@@ -11,6 +11,7 @@ use Rattle.graph_rules.specs.Graph.{stateOf, graphFrom, stateFrom}
 use Rattle.display.specs.Text.{bytes, after, joined}
 use Rattle.display.specs.Display.{stateText, displayed}
 use Rattle.display.proofs.Joins.{joined-none, joined-first, after-next, after-none}
+use Rattle.graph_rules.specs.Layout.{rowWords}
 
 module _ (w : List ℕ) where
   abbrev n : ℕ
@@ -30,7 +31,7 @@ module _ (w : List ℕ) where
   unfolding displayed graphFrom
   display-all =
       ap (λ (k : ℕ). joined (bytes "\n") (map (λ s. stateText k s (stateOf (graphFrom w) s)) (below k)))
-      (length-map (pieces 258 n (drop 2 w)) stateFrom ∙ pieces-length 258 n (drop 2 w))
+      (length-map (pieces rowWords n (drop 2 w)) stateFrom ∙ pieces-length rowWords n (drop 2 w))
 
   pub display-none : n ≡ 0 → displayed (graphFrom w) ≡ []
   display-none h = display-all ∙ joined-none (bytes "\n") textOf (below n) (let c = count in omega arith)

@@ -9,11 +9,12 @@ ghost use Rattle.display.specs.Text.{after, bytes, Wrote, Counts};
 ghost use Rattle.display.specs.Display.{markText, firstLine, edgeLine, edgeLines, endLines, stateText};
 use crate::byte_class;
 use crate::put;
+ghost use Rattle.graph_rules.specs.Layout.{noState, noLeaf, acceptIn, earlyIn};
 
 // A mark: its name and its leaf; nothing for 255.
 fn mark(out: &mut [u8], at: usize, name: &[u8], leaf: usize) -> usize
-    requires { ⌜ Counts at (markText (now name) (orNone 255 leaf)) ⌝ }
-    ensures { λ r. ⌜ Wrote (now (out .entry)) at (markText (now (name .entry)) (orNone 255 leaf)) (now (out .exit)) r ⌝ }
+    requires { ⌜ Counts at (markText (now name) (orNone noLeaf leaf)) ⌝ }
+    ensures { λ r. ⌜ Wrote (now (out .entry)) at (markText (now (name .entry)) (orNone noLeaf leaf)) (now (out .exit)) r ⌝ }
 {
     if leaf == 255 {
         return at;
@@ -24,8 +25,8 @@ fn mark(out: &mut [u8], at: usize, name: &[u8], leaf: usize) -> usize
 
 // The first line: the state's name, and its marks, from the marks word.
 fn first_line(out: &mut [u8], at: usize, s: usize, marks: usize) -> usize
-    requires { ⌜ Counts at (firstLine s (orNone 255 (marks % 256)) (orNone 255 (marks / 256))) ⌝ }
-    ensures { λ r. ⌜ Wrote (now (out .entry)) at (firstLine s (orNone 255 (marks % 256)) (orNone 255 (marks / 256))) (now (out .exit)) r ⌝ }
+    requires { ⌜ Counts at (firstLine s (orNone noLeaf (acceptIn marks)) (orNone noLeaf (earlyIn marks))) ⌝ }
+    ensures { λ r. ⌜ Wrote (now (out .entry)) at (firstLine s (orNone noLeaf (acceptIn marks)) (orNone noLeaf (earlyIn marks))) (now (out .exit)) r ⌝ }
 {
     let next = put::numbered(out, at, b"  state", s);
     let next = put::text(out, next, b" => StateData(");
@@ -68,8 +69,8 @@ fn edge_lines(out: &mut [u8], at: usize, graph: &[u16], s: usize) -> usize
 
 // The line of the end edge, after a line end; nothing for 65,535.
 fn end_line(out: &mut [u8], at: usize, target: usize) -> usize
-    requires { ⌜ Counts at (after (bytes "\n") (endLines (orNone 65535 target))) ⌝ }
-    ensures { λ r. ⌜ Wrote (now (out .entry)) at (after (bytes "\n") (endLines (orNone 65535 target))) (now (out .exit)) r ⌝ }
+    requires { ⌜ Counts at (after (bytes "\n") (endLines (orNone noState target))) ⌝ }
+    ensures { λ r. ⌜ Wrote (now (out .entry)) at (after (bytes "\n") (endLines (orNone noState target))) (now (out .exit)) r ⌝ }
 {
     if target == 65535 {
         return at;

@@ -18,30 +18,31 @@ use Rattle.graph_rules.proofs.Taken.{taken-long}
 use Rattle.graph_rules.proofs.Views.{out-accept}
 use Rattle.graph_rules.proofs.Nones.{word-inj}
 use Rattle.words.proofs.GraphWords.{accept-leaf}
+use Rattle.graph_rules.specs.Layout.{endStep, stepCount, noState, marksPlace, graphPlace, noLeaf, acceptIn}
 
 -- ---- the children of a row of 257
 
-module _ (s : State) (width : length (s .steps) ≡ 257) where
-  last : drop 256 (s .steps) ≡ getD (s .steps) 256 none ∷ []
-  last = drop-cons (s .steps) 256 none (omega arith) ∙ ap (_∷_ (getD (s .steps) 256 none)) (drop-of-length-le (s .steps) {i = 257} (omega arith))
+module _ (s : State) (width : length (s .steps) ≡ stepCount) where
+  last : drop endStep (s .steps) ≡ getD (s .steps) endStep none ∷ []
+  last = drop-cons (s .steps) endStep none (omega arith) ∙ ap (_∷_ (getD (s .steps) endStep none)) (drop-of-length-le (s .steps) {i = marksPlace} (omega arith))
 
-  children-bytes : getD (s .steps) 256 none ≡ none → children s ≡ take 256 (s .steps)
+  children-bytes : getD (s .steps) endStep none ≡ none → children s ≡ take endStep (s .steps)
   unfolding children
-  children-bytes e = rw (last, e) (append-nil (take 256 (s .steps)))
+  children-bytes e = rw (last, e) (append-nil (take endStep (s .steps)))
 
-  children-all : (u : ℕ) → getD (s .steps) 256 none ≡ some u → children s ≡ s .steps
+  children-all : (u : ℕ) → getD (s .steps) endStep none ≡ some u → children s ≡ s .steps
   unfolding children
-  children-all u e = rw (last, e) (ap (λ (x : List (Option ℕ)). take 256 (s .steps) ++ x) (sym (last ∙ rw e)) ∙ take-append-drop 256 (s .steps))
+  children-all u e = rw (last, e) (ap (λ (x : List (Option ℕ)). take endStep (s .steps) ++ x) (sym (last ∙ rw e)) ∙ take-append-drop endStep (s .steps))
 
 -- ---- the leaves of a state's children
 
 -- the word of the leaf that edge c of state s leads to
 abbrev pub leafBy : List ℕ → ℕ → ℕ → ℕ
-leafBy w s c = Option·getD (acceptBy (graphFrom w) (to (graphFrom w) s c)) 255
+leafBy w s c = Option·getD (acceptBy (graphFrom w) (to (graphFrom w) s c)) noLeaf
 
 -- the word of the early leaf of state s
 abbrev pub earlyLeaf : List ℕ → ℕ → ℕ
-earlyLeaf w s = Option·getD (earlyOf (withEarly (graphFrom w)) s) 255
+earlyLeaf w s = Option·getD (earlyOf (withEarly (graphFrom w)) s) noLeaf
 
 module _ (w : List ℕ) (taken : graphFits w ≡ true) (s : ℕ) (h : s < getD w 0 0) where
   abbrev g : Graph
@@ -50,7 +51,7 @@ module _ (w : List ℕ) (taken : graphFits w ≡ true) (s : ℕ) (h : s < getD w
   abbrev leaves : List (Option ℕ)
   leaves = map (acceptBy g) (children (stateOf g s))
 
-  width : length (stateOf g s .steps) ≡ 257
+  width : length (stateOf g s .steps) ≡ stepCount
   width = from-width w (taken-long w taken) s h
 
   -- the children are the edges of l, a part of the row
@@ -66,15 +67,15 @@ module _ (w : List ℕ) (taken : graphFits w ≡ true) (s : ℕ) (h : s < getD w
     many : length leaves ≡ n
     leaf : (c : ℕ) → c < n → getD leaves c none ≡ acceptBy g (to g s c)
 
-  byte-kids : to g s 256 ≡ none → Kids 256
+  byte-kids : to g s endStep ≡ none → Kids endStep
   unfolding to
   byte-kids e =
       let row = stateOf g s .steps in
       let kids = children-bytes (stateOf g s) width e in
       let short = length-take-le 256 row (let z = width in omega arith) in
-      record { many = size (take 256 row) kids ∙ short; leaf = λ c b. leaf-at (take 256 row) kids c (getD-take 256 row c none b) }
+      record { many = size (take endStep row) kids ∙ short; leaf = λ c b. leaf-at (take endStep row) kids c (getD-take endStep row c none b) }
 
-  all-kids : (u : ℕ) → to g s 256 ≡ some u → Kids 257
+  all-kids : (u : ℕ) → to g s endStep ≡ some u → Kids marksPlace
   unfolding to
   all-kids u e =
       let kids = children-all (stateOf g s) width u e in
@@ -83,14 +84,14 @@ module _ (w : List ℕ) (taken : graphFits w ≡ true) (s : ℕ) (h : s < getD w
   -- ---- what they agree on
 
   module _ (n : ℕ) (k : Kids n) (some-kid : 256 ≤ n) where
-    early-is : (o : Option ℕ) → agreed leaves ≡ o → Option·getD o 255 ≡ earlyLeaf w s
-    early-is o e = ap (λ (o : Option ℕ). Option·getD o 255) (sym (early-early g s ∙ e))
+    early-is : (o : Option ℕ) → agreed leaves ≡ o → Option·getD o noLeaf ≡ earlyLeaf w s
+    early-is o e = ap (λ (o : Option ℕ). Option·getD o noLeaf) (sym (early-early g s ∙ e))
 
-    differ : (c : ℕ) → c < n → (leafBy w s c ≡ leafBy w s 0 → ⊥) → 255 ≡ earlyLeaf w s
+    differ : (c : ℕ) → c < n → (leafBy w s c ≡ leafBy w s 0 → ⊥) → noLeaf ≡ earlyLeaf w s
     differ c b d =
         let m = k .many in
         early-is none
-        (agreed-none leaves c (omega arith) (λ q. d (ap (λ (o : Option ℕ). Option·getD o 255) (sym (k .leaf c b) ∙ q ∙ k .leaf 0 (omega arith)))))
+        (agreed-none leaves c (omega arith) (λ q. d (ap (λ (o : Option ℕ). Option·getD o noLeaf) (sym (k .leaf c b) ∙ q ∙ k .leaf 0 (omega arith)))))
 
     agree : ((c : ℕ) → c < n → leafBy w s c ≡ leafBy w s 0) → leafBy w s 0 ≡ earlyLeaf w s
     agree f =
@@ -98,38 +99,38 @@ module _ (w : List ℕ) (taken : graphFits w ≡ true) (s : ℕ) (h : s < getD w
         early-is (acceptBy g (to g s 0))
         (agreed-all leaves (acceptBy g (to g s 0)) (omega arith) (λ c b.
         let b′ : c < n = omega arith in
-        k .leaf c b′ ∙ word-inj 255 _ _ (no-leaf (to g s c)) (no-leaf (to g s 0)) (f c b′)))
+        k .leaf c b′ ∙ word-inj noLeaf _ _ (no-leaf (to g s c)) (no-leaf (to g s 0)) (f c b′)))
       where
-        no-leaf : (o : Option ℕ) → acceptBy g o ≡ some 255 → ⊥
+        no-leaf : (o : Option ℕ) → acceptBy g o ≡ some noLeaf → ⊥
         no-leaf none e = none-some e
         no-leaf (some u) e = accept-leaf w taken u e
 
-  pub byte-differs : (c : ℕ) → c < 256 → (leafBy w s c ≡ leafBy w s 0 → ⊥) → 255 ≡ earlyLeaf w s
-  byte-differs c b d = go (to g s 256) refl
+  pub byte-differs : (c : ℕ) → c < 256 → (leafBy w s c ≡ leafBy w s 0 → ⊥) → noLeaf ≡ earlyLeaf w s
+  byte-differs c b d = go (to g s endStep) refl
     where
-      go : (o : Option ℕ) → to g s 256 ≡ o → 255 ≡ earlyLeaf w s
-      go none e = differ 256 (byte-kids e) (omega arith) c b d
-      go (some u) e = differ 257 (all-kids u e) (omega arith) c (omega arith) d
+      go : (o : Option ℕ) → to g s endStep ≡ o → noLeaf ≡ earlyLeaf w s
+      go none e = differ endStep (byte-kids e) (omega arith) c b d
+      go (some u) e = differ marksPlace (all-kids u e) (omega arith) c (omega arith) d
 
-  pub end-differs : (u : ℕ) → to (graphFrom w) s 256 ≡ some u → (leafBy w s 256 ≡ leafBy w s 0 → ⊥) → 255 ≡ earlyLeaf w s
-  end-differs u e = differ 257 (all-kids u e) (omega arith) 256 (omega arith)
+  pub end-differs : (u : ℕ) → to (graphFrom w) s endStep ≡ some u → (leafBy w s endStep ≡ leafBy w s 0 → ⊥) → noLeaf ≡ earlyLeaf w s
+  end-differs u e = differ marksPlace (all-kids u e) (omega arith) endStep (omega arith)
 
   -- a missing end step does not prevent it
-  pub bytes-agree : to (graphFrom w) s 256 ≡ none → ((c : ℕ) → c < 256 → leafBy w s c ≡ leafBy w s 0) → leafBy w s 0 ≡ earlyLeaf w s
-  bytes-agree e = agree 256 (byte-kids e) (omega arith)
+  pub bytes-agree : to (graphFrom w) s endStep ≡ none → ((c : ℕ) → c < 256 → leafBy w s c ≡ leafBy w s 0) → leafBy w s 0 ≡ earlyLeaf w s
+  bytes-agree e = agree endStep (byte-kids e) (omega arith)
 
-  pub all-agree : (u : ℕ) → to (graphFrom w) s 256 ≡ some u → ((c : ℕ) → c < 257 → leafBy w s c ≡ leafBy w s 0) → leafBy w s 0 ≡ earlyLeaf w s
-  all-agree u e = agree 257 (all-kids u e) (omega arith)
+  pub all-agree : (u : ℕ) → to (graphFrom w) s endStep ≡ some u → ((c : ℕ) → c < stepCount → leafBy w s c ≡ leafBy w s 0) → leafBy w s 0 ≡ earlyLeaf w s
+  all-agree u e = agree marksPlace (all-kids u e) (omega arith)
 
 -- ---- words that agree on targets and accepts agree on the early leaf
 
 pub early-alike : (v w : List ℕ) (taken-v : graphFits v ≡ true) (taken-w : graphFits w ≡ true) → getD v 0 0 ≡ getD w 0 0
-    → ((s c : ℕ) → c < 257 → getD v (2 + 258 * s + c) 0 ≡ getD w (2 + 258 * s + c) 0)
-    → ((s : ℕ) → getD v (2 + 258 * s + 257) 0 % 256 ≡ getD w (2 + 258 * s + 257) 0 % 256)
+    → ((s c : ℕ) → c < stepCount → getD v (graphPlace s c) 0 ≡ getD w (graphPlace s c) 0)
+    → ((s : ℕ) → acceptIn (getD v (graphPlace s marksPlace) 0) ≡ acceptIn (getD w (graphPlace s marksPlace) 0))
     → (s : ℕ) → s < getD w 0 0 → earlyLeaf v s ≡ earlyLeaf w s
 unfolding to children
 early-alike v w taken-v taken-w size targets accepts s h =
-    ap (λ (o : Option ℕ). Option·getD o 255) (early-early (graphFrom v) s ∙ kids ∙ sym (early-early (graphFrom w) s))
+    ap (λ (o : Option ℕ). Option·getD o noLeaf) (early-early (graphFrom v) s ∙ kids ∙ sym (early-early (graphFrom w) s))
   where
     hv : {k : ℕ} → k < getD w 0 0 → k < getD v 0 0
     hv l = omega arith
@@ -139,13 +140,13 @@ early-alike v w taken-v taken-w size targets accepts s h =
         let a = from-width v (taken-long v taken-v) s (hv h) in
         ext-getD none (stateOf (graphFrom v) s .steps) (stateOf (graphFrom w) s .steps) (a ∙ sym (from-width w (taken-long w taken-w) s h))
         (λ c b.
-        let b′ : c < 257 = omega arith in
-        from-to v (taken-long v taken-v) s (hv h) c b′ ∙ ap (orNone 65535) (targets s c b′) ∙ sym (from-to w (taken-long w taken-w) s h c b′))
+        let b′ : c < stepCount = omega arith in
+        from-to v (taken-long v taken-v) s (hv h) c b′ ∙ ap (orNone noState) (targets s c b′) ∙ sym (from-to w (taken-long w taken-w) s h c b′))
 
     accept : (u : ℕ) → acceptOf (graphFrom v) u ≡ acceptOf (graphFrom w) u
     accept u =
         ⊎-elim
-        (λ l. from-accept v (taken-long v taken-v) u (hv l) ∙ ap (orNone 255) (accepts u) ∙ sym (from-accept w (taken-long w taken-w) u l))
+        (λ l. from-accept v (taken-long v taken-v) u (hv l) ∙ ap (orNone noLeaf) (accepts u) ∙ sym (from-accept w (taken-long w taken-w) u l))
         (λ l. out-accept (graphFrom v) u (rw (from-length v, size) l) ∙ sym (out-accept (graphFrom w) u (rw (from-length w) l)))
         (lt-or-le u (getD w 0 0))
 

@@ -16,6 +16,7 @@ use Rattle.lists.proofs.Those.{any-those}
 use Rattle.classes.specs.Classes.{has}
 use Rattle.graph_rules.specs.Graph.{State}
 use Rattle.edges.specs.Edges.{bytesOf, classTo, leadsTo, targets}
+use Rattle.graph_rules.specs.Layout.{mostStates}
 
 module _ (st : State) where
   pub class-flag : (u b : ℕ) → has (classTo st u) b ≡ eqOption (some u) (getD (bytesOf st) b none)
@@ -42,5 +43,5 @@ module _ (st : State) where
   targets-ascend n = rising-those (leadsTo st) (below n) (rising-below n)
 
   -- the flag of a state, where the flags are those of the states that edges lead to
-  pub target-flag : {flags : List Bool} → flags ≡ tab 0 1024 (leadsTo st) → (u : ℕ) → u < 1024 → getD flags u false ≡ leadsTo st u
-  target-flag e u h = ap (λ (l : List Bool). getD l u false) e ∙ getD-tab0 1024 (leadsTo st) u false h
+  pub target-flag : {flags : List Bool} → flags ≡ tab 0 mostStates (leadsTo st) → (u : ℕ) → u < mostStates → getD flags u false ≡ leadsTo st u
+  target-flag e u h = ap (λ (l : List Bool). getD l u false) e ∙ getD-tab0 mostStates (leadsTo st) u false h

@@ -21,6 +21,7 @@ use Rattle.graph_rules.proofs.Flat.{from-width, from-to}
 use Rattle.graph_rules.proofs.Nones.{or-meets, or-some}
 use Rattle.graph_rules.proofs.Taken.{taken-long, taken-target}
 use Rattle.edges.specs.Edges.{bytesOf, classTo, leadsTo}
+use Rattle.graph_rules.specs.Layout.{endStep, noState, mostStates, graphPlace}
 
 -- ---- what the loops keep
 
@@ -33,28 +34,28 @@ pub record Filling (class flags : List Bool) (b : ℕ) : Type 0 where
 -- those numbers are marked that a byte below b leads to
 pub record Marking (row : List (Option ℕ)) (found : List Bool) (b : ℕ) : Type 0 where
   pub within : b ≤ 256
-  pub room : length found ≡ 1024
-  pub marked : (u : ℕ) → u < 1024 → getD found u false ≡ anyL (eqOption (some u)) (take b row)
+  pub room : length found ≡ mostStates
+  pub marked : (u : ℕ) → u < mostStates → getD found u false ≡ anyL (eqOption (some u)) (take b row)
 
 module _ (w : List ℕ) (taken : graphFits w ≡ true) (s : ℕ) (h : s < getD w 0 0) where
   abbrev pub st : State
   st = stateOf (graphFrom w) s
 
   abbrev pub word : ℕ → ℕ
-  word b = getD w (2 + 258 * s + b) 0
+  word b = getD w (graphPlace s b) 0
 
   row-length : length (bytesOf st) ≡ 256
   row-length = length-take-le 256 (st .steps) (let e = from-width w (taken-long w taken) s h in omega arith)
 
-  row-at : (b : ℕ) → b < 256 → getD (bytesOf st) b none ≡ orNone 65535 (word b)
+  row-at : (b : ℕ) → b < 256 → getD (bytesOf st) b none ≡ orNone noState (word b)
   unfolding to
-  row-at b l = getD-take 256 (st .steps) b none l ∙ from-to w (taken-long w taken) s h b (omega arith)
+  row-at b l = getD-take endStep (st .steps) b none l ∙ from-to w (taken-long w taken) s h b (omega arith)
 
   -- ---- the class of an edge
 
-  module _ (u : ℕ) (k : u < 1024) where
-    met : (b : ℕ) → eqOption (some u) (orNone 65535 (word b)) ≡ eqb u (word b)
-    met b = or-meets 65535 (word b) u (λ z. omega arith)
+  module _ (u : ℕ) (k : u < mostStates) where
+    met : (b : ℕ) → eqOption (some u) (orNone noState (word b)) ≡ eqb u (word b)
+    met b = or-meets noState (word b) u (λ z. omega arith)
 
     pub class-length : length (classTo st u) ≡ 256
     unfolding classTo
@@ -76,13 +77,13 @@ module _ (w : List ℕ) (taken : graphFits w ≡ true) (s : ℕ) (h : s < getD w
         ∙ ap (λ (o : Option ℕ). anyL (eqOption (some u)) (take b (bytesOf st)) || eqOption (some u) o) (row-at b l)
         ∙ ap (λ (x : Bool). anyL (eqOption (some u)) (take b (bytesOf st)) || x) (met b)
 
-    pub leads-all : anyL (eqOption (some u)) (take 256 (bytesOf st)) ≡ leadsTo st u
+    pub leads-all : anyL (eqOption (some u)) (take endStep (bytesOf st)) ≡ leadsTo st u
     unfolding leadsTo
-    leads-all = ap (anyL (eqOption (some u))) (take-all 256 (bytesOf st) (let e = row-length in omega arith))
+    leads-all = ap (anyL (eqOption (some u))) (take-all endStep (bytesOf st) (let e = row-length in omega arith))
 
   -- ---- the flags of a class, filled from the front
 
-  module _ (u : ℕ) (k : u < 1024) where
+  module _ (u : ℕ) (k : u < mostStates) where
     pub fill-more : {flags : List Bool} {b : ℕ} → b < 256 → (x : ℕ) → x ≡ word b → Filling (classTo st u) flags b → Filling (classTo st u) (set flags b (eqb u x)) (b + 1)
     fill-more {flags} {b} l x e f =
         record {
@@ -102,7 +103,7 @@ module _ (w : List ℕ) (taken : graphFits w ≡ true) (s : ℕ) (h : s < getD w
   -- ---- the targets, marked byte by byte
 
   module _ {found : List Bool} {b : ℕ} (l : b < 256) (m : Marking (bytesOf st) found b) where
-    pub mark-more : (x : ℕ) → x ≡ word b → x < 1024 → Marking (bytesOf st) (set found x true) (b + 1)
+    pub mark-more : (x : ℕ) → x ≡ word b → x < mostStates → Marking (bytesOf st) (set found x true) (b + 1)
     mark-more x e i =
         record {
           within = omega arith;
@@ -110,7 +111,7 @@ module _ (w : List ℕ) (taken : graphFits w ≡ true) (s : ℕ) (h : s < getD w
           marked = λ u k. go u k (is (eqb u x));
         }
       where
-        go : (u : ℕ) → u < 1024 → Is (eqb u x) → getD (set found x true) u false ≡ anyL (eqOption (some u)) (take (b + 1) (bytesOf st))
+        go : (u : ℕ) → u < mostStates → Is (eqb u x) → getD (set found x true) u false ≡ anyL (eqOption (some u)) (take (b + 1) (bytesOf st))
         go u k (yes-is q) =
             let r = m .room in
             ap (λ (y : ℕ). getD (set found x true) y false) (eqb-true u x q)
@@ -121,7 +122,7 @@ module _ (w : List ℕ) (taken : graphFits w ≡ true) (s : ℕ) (h : s < getD w
             ∙ m .marked u k
             ∙ sym (leads-more u k b l ∙ ap (λ (y : Bool). anyL (eqOption (some u)) (take b (bytesOf st)) || y) (ap (eqb u) (sym e) ∙ q) ∙ or-false (anyL (eqOption (some u)) (take b (bytesOf st))))
 
-    pub mark-none : (x : ℕ) → x ≡ word b → 1024 ≤ x → Marking (bytesOf st) found (b + 1)
+    pub mark-none : (x : ℕ) → x ≡ word b → mostStates ≤ x → Marking (bytesOf st) found (b + 1)
     mark-none x e i =
         record {
           within = omega arith;
@@ -133,12 +134,12 @@ module _ (w : List ℕ) (taken : graphFits w ≡ true) (s : ℕ) (h : s < getD w
               ∙ or-false (anyL (eqOption (some u)) (take b (bytesOf st))));
         }
 
-  pub marked-all : {found : List Bool} {b : ℕ} → 256 ≤ b → Marking (bytesOf st) found b → found ≡ tab 0 1024 (leadsTo st)
+  pub marked-all : {found : List Bool} {b : ℕ} → 256 ≤ b → Marking (bytesOf st) found b → found ≡ tab 0 mostStates (leadsTo st)
   marked-all {found} {b} l m =
-      ext-getD false found (tab 0 1024 (leadsTo st)) (m .room ∙ sym (length-tab 0 1024 (leadsTo st)))
-      (λ u i. let k : u < 1024 = (let r = m .room in omega arith) in one u k ∙ sym (getD-tab0 1024 (leadsTo st) u false k))
+      ext-getD false found (tab 0 mostStates (leadsTo st)) (m .room ∙ sym (length-tab 0 mostStates (leadsTo st)))
+      (λ u i. let k : u < mostStates = (let r = m .room in omega arith) in one u k ∙ sym (getD-tab0 mostStates (leadsTo st) u false k))
     where
-      one : (u : ℕ) → u < 1024 → getD found u false ≡ leadsTo st u
+      one : (u : ℕ) → u < mostStates → getD found u false ≡ leadsTo st u
       one u k =
           let i = m .within in
           let e : b ≡ 256 = omega arith in
@@ -147,9 +148,9 @@ module _ (w : List ℕ) (taken : graphFits w ≡ true) (s : ℕ) (h : s < getD w
   -- ---- an edge leads to a state
 
   led-here : (u b : ℕ) → b < 256 → getD (bytesOf st) b none ≡ some u → u < getD w 0 0
-  led-here u b l e = go (or-some 65535 (word b) u (sym (row-at b l) ∙ e)) (taken-target w taken s b h (omega arith))
+  led-here u b l e = go (or-some noState (word b) u (sym (row-at b l) ∙ e)) (taken-target w taken s b h (omega arith))
     where
-      go : (word b ≡ u) × (word b ≡ 65535 → ⊥) → (word b < getD w 0 0) ⊎ (word b ≡ 65535) → u < getD w 0 0
+      go : (word b ≡ u) × (word b ≡ noState → ⊥) → (word b < getD w 0 0) ⊎ (word b ≡ noState) → u < getD w 0 0
       go q (inl k) = let z : word b ≡ u = q .0 in omega arith
       go q (inr z) = absurd (q .1 z)
 

@@ -7,9 +7,10 @@ use lib.ListN.{take}
 use Rattle.lists.specs.Lists.{below, anyL, those, eqOption}
 use Rattle.classes.specs.Classes.{Class}
 use Rattle.graph_rules.specs.Graph.{State}
+use Rattle.graph_rules.specs.Layout.{endStep}
 
 abbrev pub bytesOf : State → List (Option ℕ)
-bytesOf st = take 256 (st .steps)
+bytesOf st = take endStep (st .steps)
 
 -- the class of the edge to u: the bytes that lead there
 unfoldable pub classTo : State → ℕ → Class

@@ -9,6 +9,7 @@ ghost use lib.ListN.{getD};
 ghost use Rattle.lists.specs.Lists.{tab};
 ghost use Rattle.graph_rules.specs.Graph.{stateOf, graphFrom, graphFits};
 ghost use Rattle.edges.specs.Edges.{classTo, leadsTo};
+ghost use Rattle.graph_rules.specs.Layout.{mostStates};
 
 // The class of the edge from state s to state u.
 pub fn class_to(graph: &[u16], s: usize, u: usize) -> [bool; 256]
@@ -30,7 +31,7 @@ pub fn class_to(graph: &[u16], s: usize, u: usize) -> [bool; 256]
 pub fn targets(graph: &[u16], s: usize) -> [bool; 1024]
     requires { ⌜ graphFits (now graph) ≡ true ⌝ }
     requires { ⌜ s < getD (now graph) 0 0 ⌝ }
-    ensures { λ r. ⌜ r ≡ tab 0 1024 (leadsTo (stateOf (graphFrom (now (graph .entry))) s)) ⌝ }
+    ensures { λ r. ⌜ r ≡ tab 0 mostStates (leadsTo (stateOf (graphFrom (now (graph .entry))) s)) ⌝ }
 {
     let mut found = [false; 1024];
     let mut b: usize = 0;

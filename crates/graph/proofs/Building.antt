@@ -17,6 +17,7 @@ use Rattle.conflicts.specs.Listed.{listed}
 use Rattle.graph.specs.declared.new.BuildAnswer.the-variants.{Built as Made}
 use Rattle.graph.specs.New.{refusedBy, conflicts, wroteOr9, writtenOr, newOf}
 use Rattle.graph.proofs.Written.{short, enough}
+use Rattle.graph_rules.specs.Layout.{mostStates, graphSize}
 
 -- ---- what is built
 
@@ -55,26 +56,26 @@ module _ (table graph errors : List ℕ) where
     unfolding newOf
     taken b e = rw (eq-eqb (refusal table) 0 legal, newOf) (λ i. writtenOr (en i) (sym e i) graph errors)
 
-    pub new-short : length graph < 2 + 258 * n → refusedBy 8 graph errors ≡ newOf table graph errors
+    pub new-short : length graph < graphSize n → refusedBy 8 graph errors ≡ newOf table graph errors
     unfolding writtenOr
     new-short h =
-        let e : writtenOr n (build (tableOf table)) graph errors ≡ refusedBy 8 graph errors = rw (lt-ltb (length graph) (2 + 258 * n) h) in
+        let e : writtenOr n (build (tableOf table)) graph errors ≡ refusedBy 8 graph errors = rw (lt-ltb (length graph) (graphSize n) h) in
         sym e ∙ taken (build (tableOf table)) refl
 
-    pub new-built : 2 + 258 * n ≤ length graph → (b : Built) → build (tableOf table) ≡ b → wroteOr9 n b graph errors ≡ newOf table graph errors
+    pub new-built : graphSize n ≤ length graph → (b : Built) → build (tableOf table) ≡ b → wroteOr9 n b graph errors ≡ newOf table graph errors
     unfolding writtenOr
     new-built h b q =
-        let e : writtenOr n b graph errors ≡ wroteOr9 n b graph errors = rw (le-ltb (length graph) (2 + 258 * n) h) in
+        let e : writtenOr n b graph errors ≡ wroteOr9 n b graph errors = rw (le-ltb (length graph) (graphSize n) h) in
         sym e ∙ taken b q
 
 -- ---- the set of reached states, and the words in front of a graph
 
 pub set-part : (table : List ℕ) → refusal table ≡ 0 → (start : ℕ) (set : List Bool)
-    → set ≡ reached (tableOf table) start ++ replicate (1024 - getD table 0 0) false → take (getD table 0 0) set ≡ reached (tableOf table) start
+    → set ≡ reached (tableOf table) start ++ replicate (mostStates - getD table 0 0) false → take (getD table 0 0) set ≡ reached (tableOf table) start
 unfolding reached
 set-part table legal start set e =
     ap (take (getD table 0 0)) e
-    ∙ take-at (reached (tableOf table) start) (replicate (1024 - getD table 0 0) false) (getD table 0 0)
+    ∙ take-at (reached (tableOf table) start) (replicate (mostStates - getD table 0 0) false) (getD table 0 0)
     (closure-length _ (size (tableOf table)) _ ∙ size-is table legal)
 
 module _ (n : ℕ) (g : Graph) (rest w : List ℕ) (e : w ≡ graphBuffer n g ++ rest) where
@@ -89,7 +90,7 @@ module _ (n : ℕ) (g : Graph) (rest w : List ℕ) (e : w ≡ graphBuffer n g ++
 -- ---- rules 2 to 8, by the numbers that the code holds: k errors of `words` words
 
 module _ (table : List ℕ) (legal : refusal table ≡ 0) (start n : ℕ) (en : n ≡ getD table 0 0) (graph errors : List ℕ) (set : List Bool)
-    (es : set ≡ reached (tableOf table) start ++ replicate (1024 - getD table 0 0) false) (words : ℕ)
+    (es : set ≡ reached (tableOf table) start ++ replicate (mostStates - getD table 0 0) false) (words : ℕ)
     (ew : words ≡ length (flatMap errorWords (ties (tableOf table) (take (getD table 0 0) set)))) where
   abbrev b : Built
   b = buildFrom (tableOf table) (some start) []
@@ -106,21 +107,21 @@ module _ (table : List ℕ) (legal : refusal table ≡ 0) (start n : ℕ) (en : 
 
   pub states-done : words ≤ length errors → (k s r : ℕ) (g e : List ℕ)
       → k ≡ length (ties (tableOf table) (take (getD table 0 0) set))
-      → g ≡ graphBuffer (getD table 0 0) (b .graph) ++ drop (2 + 258 * getD table 0 0) graph
+      → g ≡ graphBuffer (getD table 0 0) (b .graph) ++ drop (graphSize (getD table 0 0)) graph
       → e ≡ listed (ties (tableOf table) (take (getD table 0 0) set)) errors
       → s ≡ getD g 0 0 → r ≡ getD g 1 0
       → record { answer = Made (record { states = s; root = r; errors = k; words = words }); graph = g; errors = e } ≡ wroteOr9 n b graph errors
   states-done h k s r g e ek eg ee es′ er =
       enough n b graph errors (let x = words-are in omega arith) g e _
-      (eg ∙ ap (λ (x : ℕ). graphBuffer x (b .graph) ++ drop (2 + 258 * x) graph) (sym en))
+      (eg ∙ ap (λ (x : ℕ). graphBuffer x (b .graph) ++ drop (graphSize x) graph) (sym en))
       (ee ∙ ap (λ (l : List Bool). listed (ties (tableOf table) l) errors) part)
       (λ i. record { states = states i; root = root i; errors = number i; words = words-are i })
     where
       states : s ≡ length (b .graph .states)
-      states = es′ ∙ first-word (getD table 0 0) (b .graph) (drop (2 + 258 * getD table 0 0) graph) g eg
+      states = es′ ∙ first-word (getD table 0 0) (b .graph) (drop (graphSize (getD table 0 0)) graph) g eg
 
       root : r ≡ b .graph .root
-      root = er ∙ second-word (getD table 0 0) (b .graph) (drop (2 + 258 * getD table 0 0) graph) g eg
+      root = er ∙ second-word (getD table 0 0) (b .graph) (drop (graphSize (getD table 0 0)) graph) g eg
 
       number : k ≡ length (b .errors)
       number = ek ∙ ap (λ (l : List Bool). length (ties (tableOf table) l)) part

@@ -13,10 +13,11 @@ use Rattle.graph_rules.proofs.Marks.{early-length, cleared-length}
 use Rattle.graph_rules.proofs.Shape.{few-states, few-leaves}
 use Rattle.rows.specs.Renumbering.{firstGraph}
 use Rattle.graph.proofs.Stages.{Stage, stage-next}
+use Rattle.graph_rules.specs.Layout.{graphSize}
 
 -- words that a rule has written over the words w
 abbrev pub After : (Graph → Graph) → List ℕ → List ℕ → Type 0
-After F w w′ = w′ ≡ graphBuffer (getD w 0 0) (F (graphFrom w)) ++ drop (2 + 258 * getD w 0 0) w
+After F w w′ = w′ ≡ graphBuffer (getD w 0 0) (F (graphFrom w)) ++ drop (graphSize (getD w 0 0)) w
 
 module _ (table : List ℕ) (legal : refusal table ≡ 0) (start : ℕ) (st : tableOf table .start ≡ some start) (found : List ℕ) where
   abbrev n : ℕ
@@ -37,7 +38,7 @@ module _ (table : List ℕ) (legal : refusal table ≡ 0) (start : ℕ) (st : ta
   abbrev un : Graph
   un = withCleared (withEarly first)
 
-  pub first-stage : (w : List ℕ) → w ≡ graphBuffer n first ++ drop (2 + 258 * n) found → At first w
+  pub first-stage : (w : List ℕ) → w ≡ graphBuffer n first ++ drop (graphSize n) found → At first w
   first-stage w e = record { fits = first-fits table legal start st; holds = e }
 
   -- after rules 5 and 6
@@ -49,7 +50,7 @@ module _ (table : List ℕ) (legal : refusal table ≡ 0) (start : ℕ) (st : ta
       next (withEarly first) withCleared w₂ w₃ early c (cleared-fits m n (withEarly first) (early .fits)) (let l = cleared-length (withEarly first) in omega arith)
 
   pub composed : (w₁ w₂ w₃ w₄ w₅ : List ℕ) → At first w₁ → After withEarly w₁ w₂ → After withCleared w₂ w₃ → After pruned w₃ w₄ → After (λ g. merged g .graph) w₄ w₅
-      → w₅ ≡ graphBuffer n (merged (pruned (unpruned (tableOf table) start)) .graph) ++ drop (2 + 258 * n) found
+      → w₅ ≡ graphBuffer n (merged (pruned (unpruned (tableOf table) start)) .graph) ++ drop (graphSize n) found
   unfolding unpruned
   composed w₁ w₂ w₃ w₄ w₅ s e c p q =
       let at = unpruned-stage w₁ w₂ w₃ s e c in

@@ -15,6 +15,7 @@ use Rattle.graph.specs.declared.new.Counts.{Counts}
 use Rattle.graph.specs.declared.new.BuildAnswer.{BuildAnswer}
 use Rattle.graph.specs.declared.new.BuildAnswer.the-variants.{Built as Made, Refused}
 use Rattle.graph.specs.New.{Outcome, refusedBy, conflicts, countsOf, wrote, wroteOr9, writtenOr, newOf}
+use Rattle.graph_rules.specs.Layout.{rowWords, graphSize}
 
 -- what a call that was not refused has done
 pub record Answered (table graph errors : List ℕ) (c : Counts) : Type 0 where
@@ -37,9 +38,9 @@ module _ (table graph errors : List ℕ) (c : Counts) (made : newOf table graph 
 
   written : writtenOr n b graph errors .answer ≡ Made c → writtenOr n b graph errors ≡ wrote n b graph errors
   unfolding writtenOr wroteOr9
-  written e = go (is (ltb (length graph) (2 + 258 * n))) (is (ltb (length errors) (length (conflicts b))))
+  written e = go (is (ltb (length graph) (graphSize n))) (is (ltb (length errors) (length (conflicts b))))
     where
-      go : Is (ltb (length graph) (2 + 258 * n)) → Is (ltb (length errors) (length (conflicts b))) → writtenOr n b graph errors ≡ wrote n b graph errors
+      go : Is (ltb (length graph) (graphSize n)) → Is (ltb (length errors) (length (conflicts b))) → writtenOr n b graph errors ≡ wrote n b graph errors
       go (yes-is p) q = absurd (not-made (rw p at e))
       go (no-is p) (yes-is q) = absurd (not-made (rw q at (rw p at e)))
       go (no-is p) (no-is q) = rw (p, q)
@@ -63,8 +64,8 @@ module _ (table graph errors : List ℕ) (c : Counts) (made : newOf table graph 
   answered = is-legal (is (eqb (refusal table) 0))
 
   -- the graph buffer begins with the build's words
-  pub words-first : newOf table graph errors .graph ≡ graphWords (b .graph) ++ (replicate (258 * (n - length (b .graph .states))) 0 ++ drop (2 + 258 * n) graph)
+  pub words-first : newOf table graph errors .graph ≡ graphWords (b .graph) ++ (replicate (rowWords * (n - length (b .graph .states))) 0 ++ drop (graphSize n) graph)
   unfolding graphBuffer wrote
   words-first =
       ap (λ (x : Outcome). x .graph) (answered .outcome)
-      ∙ append-assoc (graphWords (b .graph)) (replicate (258 * (n - length (b .graph .states))) 0) (drop (2 + 258 * n) graph)
+      ∙ append-assoc (graphWords (b .graph)) (replicate (rowWords * (n - length (b .graph .states))) 0) (drop (graphSize n) graph)

@@ -16,6 +16,7 @@ use Rattle.graph.specs.declared.new.BuildAnswer.{BuildAnswer}
 use Rattle.graph.specs.declared.new.BuildAnswer.the-variants.{Built as Made, Refused}
 use Rattle.graph.specs.New.{builtReport, Outcome, refusedBy, countsOf, conflicts, wrote, wroteOr9, writtenOr, newOf, wordsOf, imageOf}
 use Rattle.graph.specs.Report.{newRefusal, imageRefusal, buildValues}
+use Rattle.graph_rules.specs.Layout.{graphSize}
 
 -- the answer by the refusal's number, 0 for none
 abbrev pub answerBy : ℕ → Built → BuildAnswer
@@ -32,7 +33,7 @@ answered o = o .answer
 pub new-answer : (table graph errors : List ℕ) → newOf table graph errors .answer ≡ answerBy (newRefusal table graph errors) (build (tableOf table))
 unfolding newOf writtenOr wroteOr9 wrote newRefusal
 new-answer table graph errors =
-    go (refusal table) (ltb (length graph) (2 + 258 * getD table 0 0)) (ltb (length errors) (length (conflicts (build (tableOf table)))))
+    go (refusal table) (ltb (length graph) (graphSize (getD table 0 0))) (ltb (length errors) (length (conflicts (build (tableOf table)))))
   where
     b : Built
     b = build (tableOf table)

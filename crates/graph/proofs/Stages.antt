@@ -10,16 +10,17 @@ use Rattle.graph_rules.specs.Graph.{Graph, graphWords, graphBuffer, graphFrom, 
 use Rattle.graph_rules.proofs.Fits.{Fits}
 use Rattle.graph_rules.proofs.Words.{graph-back, words-taken}
 use Rattle.words.proofs.Buffers.{written-over}
+use Rattle.graph_rules.specs.Layout.{mostStates, rowWords, graphSize, noLeaf}
 
 -- words w hold graph g, of a table of n states; `found` is what was lent
 pub record Stage (m n : ℕ) (found : List ℕ) (g : Graph) (w : List ℕ) : Type 0 where
   pub fits : Fits m n g
-  pub holds : w ≡ graphBuffer n g ++ drop (2 + 258 * n) found
+  pub holds : w ≡ graphBuffer n g ++ drop (graphSize n) found
 
-module _ (m n : ℕ) (leaves : m ≤ 255) (states : n ≤ 1024) (found : List ℕ) (g : Graph) (w : List ℕ) (at : Stage m n found g w) where
-  front : w ≡ graphWords g ++ (replicate (258 * (n - length (g .states))) 0 ++ drop (2 + 258 * n) found)
+module _ (m n : ℕ) (leaves : m ≤ noLeaf) (states : n ≤ mostStates) (found : List ℕ) (g : Graph) (w : List ℕ) (at : Stage m n found g w) where
+  front : w ≡ graphWords g ++ (replicate (rowWords * (n - length (g .states))) 0 ++ drop (graphSize n) found)
   unfolding graphBuffer
-  front = at .holds ∙ append-assoc (graphWords g) (replicate (258 * (n - length (g .states))) 0) (drop (2 + 258 * n) found)
+  front = at .holds ∙ append-assoc (graphWords g) (replicate (rowWords * (n - length (g .states))) 0) (drop (graphSize n) found)
 
   pub stage-taken : graphFits w ≡ true
   stage-taken = ap graphFits front ∙ words-taken m n leaves states g (at .fits) _
@@ -37,13 +38,13 @@ module _ (m n : ℕ) (leaves : m ≤ 255) (states : n ≤ 1024) (found : List �
 
   -- a rule on the words is the rule on the graph
   pub stage-next : (F : Graph → Graph) (w′ : List ℕ)
-      → w′ ≡ graphBuffer (getD w 0 0) (F (graphFrom w)) ++ drop (2 + 258 * getD w 0 0) w
+      → w′ ≡ graphBuffer (getD w 0 0) (F (graphFrom w)) ++ drop (graphSize (getD w 0 0)) w
       → Fits m n (F g) → length (F g .states) ≤ length (g .states) → Stage m n found (F g) w′
   stage-next F w′ e fits less =
       record {
         fits = fits;
         holds =
             e
-            ∙ (λ i. graphBuffer (stage-count i) (F (stage-back i)) ++ drop (2 + 258 * stage-count i) (at .holds i))
-            ∙ written-over m n leaves states g (at .fits) (F g) less (drop (2 + 258 * n) found);
+            ∙ (λ i. graphBuffer (stage-count i) (F (stage-back i)) ++ drop (graphSize (stage-count i)) (at .holds i))
+            ∙ written-over m n leaves states g (at .fits) (F g) less (drop (graphSize n) found);
       }

@@ -21,6 +21,7 @@ use Rattle.conflicts.specs.Listed.{listed}
 use Rattle.graph.specs.declared.new.Counts.{Counts}
 use Rattle.graph.specs.declared.new.BuildAnswer.the-variants.{Built as Made, Refused}
 use Rattle.graph.specs.New.{Outcome, refusedBy, conflicts, countsOf, wrote, wroteOr9}
+use Rattle.graph_rules.specs.Layout.{rowWords, graphSize, noLeaf}
 
 module _ (n : ℕ) (b : Built) (graph errors : List ℕ) where
   pub short : length errors < length (conflicts b) → refusedBy 9 graph errors ≡ wroteOr9 n b graph errors
@@ -28,24 +29,24 @@ module _ (n : ℕ) (b : Built) (graph errors : List ℕ) where
   short h = rw (lt-ltb (length errors) (length (conflicts b)) h)
 
   pub enough : length (conflicts b) ≤ length errors → (g e : List ℕ) (c : Counts)
-      → g ≡ graphBuffer n (b .graph) ++ drop (2 + 258 * n) graph → e ≡ listed (b .errors) errors → c ≡ countsOf b
+      → g ≡ graphBuffer n (b .graph) ++ drop (graphSize n) graph → e ≡ listed (b .errors) errors → c ≡ countsOf b
       → record { answer = Made c; graph = g; errors = e } ≡ wroteOr9 n b graph errors
   unfolding wroteOr9 wrote conflicts
   enough h g e c p q r = rw (le-ltb (length errors) (length (conflicts b)) h) (λ i. record { answer = Made (r i); graph = p i; errors = q i })
 
 -- ---- a graph without states
 
-pub blank-words : (n : ℕ) (found : List ℕ) (k : ℕ) → k ≡ 2 + 258 * n → k ≤ length found
-    → sets found 0 (replicate (k - 0) 0) ≡ graphBuffer n (record { states = []; root = 0 }) ++ drop (2 + 258 * n) found
+pub blank-words : (n : ℕ) (found : List ℕ) (k : ℕ) → k ≡ graphSize n → k ≤ length found
+    → sets found 0 (replicate (k - 0) 0) ≡ graphBuffer n (record { states = []; root = 0 }) ++ drop (graphSize n) found
 unfolding graphBuffer graphWords flatMap
 blank-words n found k e h =
-    let a : k - 0 ≡ 2 + 258 * n = omega arith in
-    let l : length {A = ℕ} (replicate (2 + 258 * n) 0) ≡ 2 + 258 * n = length-replicate {A = ℕ} (2 + 258 * n) 0 in
-    let s : 258 * (n - 0) ≡ 258 * n = omega arith in
+    let a : k - 0 ≡ graphSize n = omega arith in
+    let l : length {A = ℕ} (replicate (graphSize n) 0) ≡ graphSize n = length-replicate {A = ℕ} (graphSize n) 0 in
+    let s : rowWords * (n - 0) ≡ rowWords * n = omega arith in
     ap (λ (x : ℕ). sets found 0 (replicate x 0)) a
-    ∙ sets-front found (replicate (2 + 258 * n) 0) (omega arith)
-    ∙ ap (λ (x : ℕ). replicate (2 + 258 * n) 0 ++ drop x found) l
-    ∙ ap (λ (x : List ℕ). x ++ drop (2 + 258 * n) found) (sym (replicate-append-replicate 2 (258 * n) 0) ∙ ap (λ (x : ℕ). 0 ∷ 0 ∷ replicate x 0) (sym s))
+    ∙ sets-front found (replicate (graphSize n) 0) (omega arith)
+    ∙ ap (λ (x : ℕ). replicate (graphSize n) 0 ++ drop x found) l
+    ∙ ap (λ (x : List ℕ). x ++ drop (graphSize n) found) (sym (replicate-append-replicate 2 (rowWords * n) 0) ∙ ap (λ (x : ℕ). 0 ∷ 0 ∷ replicate x 0) (sym s))
 
 -- ---- the errors of rule 1
 
@@ -63,14 +64,14 @@ those-few p (x ∷ l) = go (is (p x)) (those-few p l)
     go (no-is q) h = rw (q, those) (omega arith)
 
 module _ (w : List ℕ) (legal : refusal w ≡ 0) where
-  leaves-few : length (tableOf w .leaves) ≤ 255
+  leaves-few : length (tableOf w .leaves) ≤ noLeaf
   unfolding tableOf
   leaves-few =
       let a : length (tableOf w .leaves) ≡ getD w 2 0 = length-map (pieces 3 (getD w 2 0) (drop 4 w)) _ ∙ pieces-length 3 (getD w 2 0) (drop 4 w) in
       let b = few-leaves w legal in
       omega arith
 
-  pub few-empty : length (emptyLeaves (tableOf w)) ≤ 255
+  pub few-empty : length (emptyLeaves (tableOf w)) ≤ noLeaf
   unfolding emptyLeaves
   few-empty =
       let n = length (tableOf w .leaves) in

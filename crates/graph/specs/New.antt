@@ -6,11 +6,12 @@ use lib.Dec.{eqb, ltb}
 use lib.ListN.{length, getD, drop}
 use Rattle.lists.specs.Report.{Report, reporting, refusing}
 use Rattle.graph_rules.specs.Table.{tableOf, refusal}
-use Rattle.graph_rules.specs.Graph.{graphBuffer}
+use Rattle.graph_rules.specs.Graph.{writtenOn}
 use Rattle.graph_rules.specs.Build.{Built, errorWords, build}
 use Rattle.graph.specs.declared.new.Counts.{Counts}
 use Rattle.graph.specs.declared.new.BuildAnswer.{BuildAnswer}
 use Rattle.graph.specs.declared.new.BuildAnswer.the-variants.{Built as Made, Refused}
+use Rattle.graph_rules.specs.Layout.{graphSize}
 
 -- in document 01's numbers: states, root, errors, error words
 abbrev pub builtReport : BuildAnswer → Report
@@ -40,7 +41,7 @@ unfoldable pub wrote : ℕ → Built → List ℕ → List ℕ → Outcome
 wrote n b graph errors =
     record {
       answer = Made (countsOf b);
-      graph = graphBuffer n (b .graph) ++ drop (2 + 258 * n) graph;
+      graph = writtenOn n (b .graph) graph;
       errors = conflicts b ++ drop (length (conflicts b)) errors;
     }
 
@@ -50,7 +51,7 @@ wroteOr9 n b graph errors = cond (ltb (length errors) (length (conflicts b))) (r
 
 -- 8: "graph buffer below 2 + 258n"
 unfoldable pub writtenOr : ℕ → Built → List ℕ → List ℕ → Outcome
-writtenOr n b graph errors = cond (ltb (length graph) (2 + 258 * n)) (refusedBy 8 graph errors) (wroteOr9 n b graph errors)
+writtenOr n b graph errors = cond (ltb (length graph) (graphSize n)) (refusedBy 8 graph errors) (wroteOr9 n b graph errors)
 
 -- `new`: table words, graph buffer, error buffer
 unfoldable pub newOf : List ℕ → List ℕ → List ℕ → Outcome

@@ -8,13 +8,14 @@ use Rattle.lists.specs.Report.{on, lowest}
 use Rattle.graph_rules.specs.Table.{tableOf, refusal}
 use Rattle.graph_rules.specs.Build.{Built, build}
 use Rattle.graph.specs.New.{conflicts, wordsOf}
+use Rattle.graph_rules.specs.Layout.{graphSize}
 
 -- table words, graph buffer, error buffer: 1 to 7; 8, "graph buffer below 2 + 258n"; 9, "error buffer below the words needed"
 unfoldable pub newRefusal : List ℕ → List ℕ → List ℕ → ℕ
 newRefusal table graph errors =
     lowest
     (refusal table
-    ∷ on (ltb (length graph) (2 + 258 * getD table 0 0)) 8
+    ∷ on (ltb (length graph) (graphSize (getD table 0 0))) 8
     ∷ on (ltb (length errors) (length (conflicts (build (tableOf table))))) 9
     ∷ [])
 

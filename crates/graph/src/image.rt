@@ -5,11 +5,12 @@ ghost use Prim.Native.Nat.{_+_, _*_, _/_, _≤_, _<_};
 ghost use lib.ListN.{length, getD, drop};
 ghost use Rattle.graph.specs.New.{wordsOf, Outcome, imageOf};
 use crate::new::BuildAnswer;
+ghost use Rattle.graph_rules.specs.Layout.{marksWord};
 
 // Word i of an image.
 fn word(image: &[u8], i: usize) -> u16
     requires { ⌜ 2 * i + 1 < length (now image) ⌝ }
-    ensures { λ r. ⌜ r ≡ getD (now (image .entry)) (2 * i) 0 + 256 * getD (now (image .entry)) (2 * i + 1) 0 ⌝ }
+    ensures { λ r. ⌜ r ≡ marksWord (getD (now (image .entry)) (2 * i) 0) (getD (now (image .entry)) (2 * i + 1) 0) ⌝ }
 {
     let low = image[2 * i] as u16;
     let high = image[2 * i + 1] as u16;

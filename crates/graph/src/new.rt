@@ -7,9 +7,10 @@ ghost use mathlib.Core.List.{[], _∷_, _++_, map};
 ghost use Prim.Native.Nat.{_+_, _-_, _*_, _≤_};
 ghost use lib.ListN.{length, getD, drop, replicate};
 ghost use Rattle.graph_rules.specs.Table.{tableOf, refusal};
-ghost use Rattle.graph_rules.specs.Graph.{graphBuffer};
+ghost use Rattle.graph_rules.specs.Graph.{writtenOn};
 ghost use Rattle.graph_rules.specs.Build.{noUniversalStart, emptyMatch, emptyLeaves, noStates, reached, unpruned, pruned, merged, buildFrom};
 ghost use Rattle.graph.specs.New.{Outcome, wroteOr9, newOf};
+ghost use Rattle.graph_rules.specs.Layout.{mostStates, graphSize};
 
 // How many states the graph has, its root, how many errors there are, and how many words they take.
 pub struct Counts {
@@ -26,9 +27,9 @@ pub enum BuildAnswer {
 
 // No states: the count and the root are 0, and so is every word up to those of n states.
 fn no_states(graph: &mut [u16], n: usize)
-    requires { ⌜ n ≤ 1024 ⌝ }
-    requires { ⌜ 2 + 258 * n ≤ length (now graph) ⌝ }
-    ensures { λ _. ⌜ now (graph .exit) ≡ graphBuffer n (record { states = []; root = 0 }) ++ drop (2 + 258 * n) (now (graph .entry)) ⌝ }
+    requires { ⌜ n ≤ mostStates ⌝ }
+    requires { ⌜ graphSize n ≤ length (now graph) ⌝ }
+    ensures { λ _. ⌜ now (graph .exit) ≡ writtenOn n (record { states = []; root = 0 }) (now (graph .entry)) ⌝ }
 {
     let end = words::graph::place(n, 0);
     words::zero(graph, 0, end);
@@ -36,8 +37,8 @@ fn no_states(graph: &mut [u16], n: usize)
 
 // Rule 1, where there is no universal start.
 fn without_start(n: usize, graph: &mut [u16], errors: &mut [u16]) -> BuildAnswer
-    requires { ⌜ n ≤ 1024 ⌝ }
-    requires { ⌜ 2 + 258 * n ≤ length (now graph) ⌝ }
+    requires { ⌜ n ≤ mostStates ⌝ }
+    requires { ⌜ graphSize n ≤ length (now graph) ⌝ }
     ensures { λ r. ⌜ record { answer = r; graph = now (graph .exit); errors = now (errors .exit) } ≡ wroteOr9 n (noStates (noUniversalStart ∷ [])) (now (graph .entry)) (now (errors .entry)) ⌝ }
 {
     if errors.len() < 2 {
@@ -63,8 +64,8 @@ fn with_empty(
 ) -> BuildAnswer
     requires { ⌜ refusal (now table) ≡ 0 ⌝ }
     requires { ⌜ count ≡ length (emptyLeaves (tableOf (now table))) ⌝ }
-    requires { ⌜ n ≤ 1024 ⌝ }
-    requires { ⌜ 2 + 258 * n ≤ length (now graph) ⌝ }
+    requires { ⌜ n ≤ mostStates ⌝ }
+    requires { ⌜ graphSize n ≤ length (now graph) ⌝ }
     ensures { λ r. ⌜ record { answer = r; graph = now (graph .exit); errors = now (errors .exit) } ≡ wroteOr9 n (noStates (map emptyMatch (emptyLeaves (tableOf (now (table .entry)))))) (now (graph .entry)) (now (errors .entry)) ⌝ }
 {
     let words = 3 * count;
@@ -85,9 +86,9 @@ fn with_empty(
 fn write_graph(table: &[u16], start: usize, set: &[bool; 1024], graph: &mut [u16])
     requires { ⌜ refusal (now table) ≡ 0 ⌝ }
     requires { ⌜ tableOf (now table) .start ≡ some start ⌝ }
-    requires { ⌜ now set ≡ reached (tableOf (now table)) start ++ replicate (1024 - getD (now table) 0 0) false ⌝ }
-    requires { ⌜ 2 + 258 * getD (now table) 0 0 ≤ length (now graph) ⌝ }
-    ensures { λ _. ⌜ now (graph .exit) ≡ graphBuffer (getD (now (table .entry)) 0 0) (merged (pruned (unpruned (tableOf (now (table .entry))) start)) .graph) ++ drop (2 + 258 * getD (now (table .entry)) 0 0) (now (graph .entry)) ⌝ }
+    requires { ⌜ now set ≡ reached (tableOf (now table)) start ++ replicate (mostStates - getD (now table) 0 0) false ⌝ }
+    requires { ⌜ graphSize (getD (now table) 0 0) ≤ length (now graph) ⌝ }
+    ensures { λ _. ⌜ now (graph .exit) ≡ writtenOn (getD (now (table .entry)) 0 0) (merged (pruned (unpruned (tableOf (now (table .entry))) start)) .graph) (now (graph .entry)) ⌝ }
 {
     rows::write(table, start, set, graph);
     early::early(graph);
@@ -107,7 +108,7 @@ fn with_states(
     requires { ⌜ refusal (now table) ≡ 0 ⌝ }
     requires { ⌜ tableOf (now table) .start ≡ some start ⌝ }
     requires { ⌜ n ≡ getD (now table) 0 0 ⌝ }
-    requires { ⌜ 2 + 258 * n ≤ length (now graph) ⌝ }
+    requires { ⌜ graphSize n ≤ length (now graph) ⌝ }
     ensures { λ r. ⌜ record { answer = r; graph = now (graph .exit); errors = now (errors .exit) } ≡ wroteOr9 n (buildFrom (tableOf (now (table .entry))) (some start) []) (now (graph .entry)) (now (errors .entry)) ⌝ }
 {
     let set = reach::reached(table, start);

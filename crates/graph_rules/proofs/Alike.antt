@@ -14,13 +14,14 @@ use Rattle.graph_rules.specs.Table.{Table, step}
 use Rattle.graph_rules.specs.Graph.{Graph, to, acceptOf, earlyOf}
 use Rattle.graph_rules.specs.Build.{leafOf, edge}
 use Rattle.graph_rules.specs.Read.{Reading, Walker, Bytes, late, mark, onward, walk, tableWalker, graphWalker}
+use Rattle.graph_rules.specs.Layout.{endStep, stepCount}
 
 pub record Facts (t : Table) (g : Graph) (R : ℕ → ℕ → Type 0) : Type 0 where
-  pub ends : (s i c : ℕ) → R s i → c < 257 → edge (step t s c) ≡ none → to g i c ≡ none
-  pub leads : (s i c u : ℕ) → R s i → c < 257 → edge (step t s c) ≡ some u → (j : ℕ) × R u j × (to g i c ≡ some j)
-  pub early-leads : (s i l c : ℕ) → R s i → earlyOf g i ≡ some l → c < 257 → (u : ℕ) × (edge (step t s c) ≡ some u) × (leafOf t u ≡ some l)
+  pub ends : (s i c : ℕ) → R s i → c < stepCount → edge (step t s c) ≡ none → to g i c ≡ none
+  pub leads : (s i c u : ℕ) → R s i → c < stepCount → edge (step t s c) ≡ some u → (j : ℕ) × R u j × (to g i c ≡ some j)
+  pub early-leads : (s i l c : ℕ) → R s i → earlyOf g i ≡ some l → c < stepCount → (u : ℕ) × (edge (step t s c) ≡ some u) × (leafOf t u ≡ some l)
   pub accept-or : (s i : ℕ) → R s i → (acceptOf g i ≡ leafOf t s) ⊎ (acceptOf g i ≡ none)
-  pub accept-after : (s i c u j : ℕ) → R s i → c < 257 → edge (step t s c) ≡ some u → R u j → earlyOf g i ≡ none → acceptOf g j ≡ leafOf t u
+  pub accept-after : (s i c u j : ℕ) → R s i → c < stepCount → edge (step t s c) ≡ some u → R u j → earlyOf g i ≡ none → acceptOf g j ≡ leafOf t u
 
 -- the records p of the table and q of the graph at state i, after k bytes
 data Arrived (g : Graph) (i k : ℕ) (p q : Reading) : Type 0 where
@@ -29,7 +30,7 @@ data Arrived (g : Graph) (i k : ℕ) (p q : Reading) : Type 0 where
 
 module _ (t : Table) (g : Graph) (R : ℕ → ℕ → Type 0) (f : Facts t g R) where
   -- a step to u and j: what is recorded for a leaf and for an accept
-  late-alike : (s i c u j k : ℕ) (p q : Reading) → R s i → c < 257 → edge (step t s c) ≡ some u → R u j → Arrived g i k p q
+  late-alike : (s i c u j k : ℕ) (p q : Reading) → R s i → c < stepCount → edge (step t s c) ≡ some u → R u j → Arrived g i k p q
       → late (leafOf t u) (suc k) p ≡ late (acceptOf g j) (suc k) q
   late-alike s i c u j k p q r h e r′ (level n a) = rw (f .accept-after s i c u j r h e r′ n, a)
   late-alike s i c u j k p q r h e r′ (ahead l n a) =
@@ -41,7 +42,7 @@ module _ (t : Table) (g : Graph) (R : ℕ → ℕ → Type 0) (f : Facts t g R) 
       (λ x. sym a ∙ ap (λ (o : Option ℕ). late o (suc k) q) (sym x))
       (f .accept-or u j r′)
 
-  arrives : (s i c u j k : ℕ) (p q : Reading) → R s i → c < 257 → edge (step t s c) ≡ some u → R u j → Arrived g i k p q
+  arrives : (s i c u j k : ℕ) (p q : Reading) → R s i → c < stepCount → edge (step t s c) ≡ some u → R u j → Arrived g i k p q
       → Arrived g j (suc k) (late (leafOf t u) (suc k) p) (mark (earlyOf g j) (acceptOf g j) (suc k) q)
   arrives s i c u j k p q r h e r′ a = go (earlyOf g j) refl
     where
@@ -50,7 +51,7 @@ module _ (t : Table) (g : Graph) (R : ℕ → ℕ → Type 0) (f : Facts t g R) 
       go (some l) n = ahead l n (ap (λ (o : Option ℕ). mark o (acceptOf g j) (suc k) q) n)
 
   -- one step, byte or end, and what follows it
-  step-alike : (s i c k : ℕ) (p q : Reading) (x y : ℕ → Reading) → R s i → c < 257 → Arrived g i k p q
+  step-alike : (s i c k : ℕ) (p q : Reading) (x y : ℕ → Reading) → R s i → c < stepCount → Arrived g i k p q
       → ((u j : ℕ) → edge (step t s c) ≡ some u → R u j → x u ≡ y j) → onward p x (edge (step t s c)) ≡ onward q y (to g i c)
   step-alike s i c k p q x y r h a same = go (edge (step t s c)) refl
     where
@@ -66,7 +67,7 @@ module _ (t : Table) (g : Graph) (R : ℕ → ℕ → Type 0) (f : Facts t g R) 
 
   -- the walks after arrival
   abbrev after : Walker → ℕ → ℕ → Reading → List ℕ → Reading
-  after w s k q [] = onward q (λ u. w .leave u k q) (w .next s 256)
+  after w s k q [] = onward q (λ u. w .leave u k q) (w .next s endStep)
   after w s k q (b ∷ text) = onward q (λ u. walk w u (suc k) q text) (w .next s b)
 
   walk-after : (w : Walker) (s k : ℕ) (r : Reading) (text : List ℕ) → walk w s k r text ≡ after w s k (w .enter s k r) text
@@ -76,9 +77,9 @@ module _ (t : Table) (g : Graph) (R : ℕ → ℕ → Type 0) (f : Facts t g R) 
   after-alike : (text : List ℕ) → Bytes text → (s i k : ℕ) (p q : Reading) → R s i → Arrived g i k p q
       → after (tableWalker t) s k p text ≡ after (graphWalker g) i k q text
   unfolding tableWalker graphWalker
-  after-alike [] bytes s i k p q r a = step-alike s i 256 k p q _ _ r (omega arith) a (λ u j e r′. late-alike s i 256 u j k p q r (omega arith) e r′ a)
+  after-alike [] bytes s i k p q r a = step-alike s i endStep k p q _ _ r (omega arith) a (λ u j e r′. late-alike s i endStep u j k p q r (omega arith) e r′ a)
   after-alike (b ∷ text) bytes s i k p q r a =
-      let h : b < 257 = let h′ : b < 256 = bytes 0 in omega arith in
+      let h : b < stepCount = let h′ : b < 256 = bytes 0 in omega arith in
       step-alike s i b k p q _ _ r h a (λ u j e r′.
       walk-after (tableWalker t) u (suc k) p text
       ∙ after-alike text (λ m. bytes (suc m)) u j (suc k) _ _ r′ (arrives s i b u j k p q r h e r′ a)

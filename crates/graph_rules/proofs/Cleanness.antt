@@ -22,6 +22,7 @@ use Rattle.graph_rules.specs.Clean.{first, reachedFrom, firstError, erro
 use Rattle.graph_rules.proofs.Agreed.{agreed-at, agreed-all}
 use Rattle.graph_rules.proofs.Shape.{Shaped, legal-shaped, some-state, size-is}
 use Rattle.graph_rules.proofs.Unpruned.{reached-below}
+use Rattle.graph_rules.specs.Layout.{endStep, stepCount}
 
 -- the three places, where no rule is broken
 all-unbroken : (a b c : Option ℕ) → unbroken (firstBreach 1 (a ∷ b ∷ c ∷ [])) ≡ true → (a ≡ none) × (b ≡ none) × (c ≡ none)
@@ -47,12 +48,12 @@ present-some (some l) e = (l, refl)
 module _ (t : Table) (sh : Shaped t) where
   -- ---- rule 2
 
-  zero-steps-all : 0 < size t → ((c : ℕ) → c < 257 → step t 0 c ≡ 0) → allL (eqb 0) (rowOf t 0 .steps) ≡ true
+  zero-steps-all : 0 < size t → ((c : ℕ) → c < stepCount → step t 0 c ≡ 0) → allL (eqb 0) (rowOf t 0 .steps) ≡ true
   unfolding step
   zero-steps-all z f =
       let w = sh .width 0 z in all-intro (eqb 0) (rowOf t 0 .steps) 0 (λ c h. eq-eqb 0 _ (sym (f c (omega arith))))
 
-  all-zero-steps : 0 < size t → allL (eqb 0) (rowOf t 0 .steps) ≡ true → (c : ℕ) → c < 257 → step t 0 c ≡ 0
+  all-zero-steps : 0 < size t → allL (eqb 0) (rowOf t 0 .steps) ≡ true → (c : ℕ) → c < stepCount → step t 0 c ≡ 0
   unfolding step
   all-zero-steps z a c h =
       let w = sh .width 0 z in sym (eqb-true 0 _ (all-at (eqb 0) (rowOf t 0 .steps) c 0 a (omega arith)))
@@ -61,40 +62,40 @@ module _ (t : Table) (sh : Shaped t) where
 
   module _ (s : ℕ) (h : s < size t) where
     abbrev pub byteLeaves : List (Option ℕ)
-    byteLeaves = map (leafOf t) (take 256 (rowOf t s .steps))
+    byteLeaves = map (leafOf t) (take endStep (rowOf t s .steps))
 
-    byte-count : length (take 256 (rowOf t s .steps)) ≡ 256
+    byte-count : length (take endStep (rowOf t s .steps)) ≡ 256
     byte-count = let w = sh .width s h in length-take-le 256 (rowOf t s .steps) (omega arith)
 
     pub byte-leaves : length byteLeaves ≡ 256
-    byte-leaves = length-map (take 256 (rowOf t s .steps)) (leafOf t) ∙ byte-count
+    byte-leaves = length-map (take endStep (rowOf t s .steps)) (leafOf t) ∙ byte-count
 
     pub byte-leaf : (b : ℕ) → b < 256 → getD byteLeaves b none ≡ leafOf t (step t s b)
     unfolding step
     byte-leaf b k =
         let n = byte-count in
-        map-at (leafOf t) (take 256 (rowOf t s .steps)) b 0 none (omega arith) ∙ ap (leafOf t) (getD-take 256 (rowOf t s .steps) b 0 k)
+        map-at (leafOf t) (take endStep (rowOf t s .steps)) b 0 none (omega arith) ∙ ap (leafOf t) (getD-take endStep (rowOf t s .steps) b 0 k)
 
-    pub endless-means : endless t s ≡ true → (l : ℕ) × ((b : ℕ) → b < 256 → leafOf t (step t s b) ≡ some l) × (step t s 256 ≡ 0)
+    pub endless-means : endless t s ≡ true → (l : ℕ) × ((b : ℕ) → b < 256 → leafOf t (step t s b) ≡ some l) × (step t s endStep ≡ 0)
     unfolding endless bytesLeaf
     endless-means e =
         let (p, z) = and-both (present (agreed byteLeaves)) _ e in
         let (l, q) = present-some (agreed byteLeaves) p in
         let n = byte-leaves in
-        (l, λ b k. sym (byte-leaf b k) ∙ agreed-at byteLeaves l q b (omega arith), eqb-true (step t s 256) 0 z)
+        (l, λ b k. sym (byte-leaf b k) ∙ agreed-at byteLeaves l q b (omega arith), eqb-true (step t s endStep) 0 z)
 
-    pub endless-shown : (l : ℕ) → ((b : ℕ) → b < 256 → leafOf t (step t s b) ≡ some l) → step t s 256 ≡ 0 → endless t s ≡ true
+    pub endless-shown : (l : ℕ) → ((b : ℕ) → b < 256 → leafOf t (step t s b) ≡ some l) → step t s endStep ≡ 0 → endless t s ≡ true
     unfolding endless bytesLeaf
     endless-shown l f z =
         let n = byte-leaves in
         let q : agreed byteLeaves ≡ some l = agreed-all byteLeaves (some l) (omega arith) (λ b k. let k′ : b < 256 = omega arith in byte-leaf b k′ ∙ f b k′) in
-        and-intro (present (agreed byteLeaves)) _ (ap present q) (eq-eqb (step t s 256) 0 z)
+        and-intro (present (agreed byteLeaves)) _ (ap present q) (eq-eqb (step t s endStep) 0 z)
 
     -- a state that the table reaches is not endless, just if the third rule holds of it
-    pub end-kept : endless t s ≡ false → (l : ℕ) → ((b : ℕ) → b < 256 → leafOf t (step t s b) ≡ some l) → step t s 256 ≡ 0 → ⊥
+    pub end-kept : endless t s ≡ false → (l : ℕ) → ((b : ℕ) → b < 256 → leafOf t (step t s b) ≡ some l) → step t s endStep ≡ 0 → ⊥
     end-kept e l f q = false≢true (sym e ∙ endless-shown l f q)
 
-    pub not-endless : ((l : ℕ) → ((b : ℕ) → b < 256 → leafOf t (step t s b) ≡ some l) → step t s 256 ≡ 0 → ⊥) → endless t s ≡ false
+    pub not-endless : ((l : ℕ) → ((b : ℕ) → b < 256 → leafOf t (step t s b) ≡ some l) → step t s endStep ≡ 0 → ⊥) → endless t s ≡ false
     not-endless f = go (is (endless t s))
       where
         go : Is (endless t s) → endless t s ≡ false

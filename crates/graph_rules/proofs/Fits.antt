@@ -24,9 +24,10 @@ use Rattle.graph_rules.proofs.Prune.{kept-length, kept-root, restrict-l
 use Rattle.graph_rules.proofs.Marks.{early-state, early-to, early-accept, early-length, early-byte, cleared-length, cleared-state, cleared-to, cleared-accept}
 use Rattle.graph_rules.proofs.Shape.{Shaped, legal-leaf, legal-shaped, size-is}
 use Rattle.graph_rules.proofs.Unpruned.{lengths, reached-below, reached-start, whole-length, whole-state}
+use Rattle.graph_rules.specs.Layout.{stepCount}
 
 pub record FitsState (m : ℕ) (s : State) : Type 0 where
-  pub width : length (s .steps) ≡ 257
+  pub width : length (s .steps) ≡ stepCount
   pub accept-below : (l : ℕ) → s .accept ≡ some l → l < m
   pub early-below : (l : ℕ) → s .early ≡ some l → l < m
 

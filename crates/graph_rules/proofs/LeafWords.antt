@@ -10,13 +10,14 @@ use Rattle.graph_rules.specs.Graph.{orNone}
 use Rattle.graph_rules.specs.Build.{leafOf}
 use Rattle.graph_rules.proofs.Shape.{few-leaves, legal-leaf}
 use Rattle.graph_rules.proofs.Words.{back-none, getD-le}
+use Rattle.graph_rules.specs.Layout.{noLeaf}
 
 module _ (w : List ℕ) (legal : refusal w ≡ 0) (s : ℕ) where
-  leaf-small : (x : ℕ) → leafOf (tableOf w) s ≡ some x → x < 255
+  leaf-small : (x : ℕ) → leafOf (tableOf w) s ≡ some x → x < noLeaf
   leaf-small x e = let a : x < getD w 2 0 = legal-leaf w legal s x e in let b = few-leaves w legal in omega arith
 
-  pub leaf-back : (l : ℕ) → l ≡ Option·getD (leafOf (tableOf w) s) 255 → orNone 255 l ≡ leafOf (tableOf w) s
-  leaf-back l e = ap (orNone 255) e ∙ back-none 255 (leafOf (tableOf w) s) leaf-small
+  pub leaf-back : (l : ℕ) → l ≡ Option·getD (leafOf (tableOf w) s) noLeaf → orNone noLeaf l ≡ leafOf (tableOf w) s
+  leaf-back l e = ap (orNone noLeaf) e ∙ back-none noLeaf (leafOf (tableOf w) s) leaf-small
 
-  pub leaf-low : Option·getD (leafOf (tableOf w) s) 255 ≤ 255
-  leaf-low = getD-le 255 (leafOf (tableOf w) s) leaf-small
+  pub leaf-low : Option·getD (leafOf (tableOf w) s) noLeaf ≤ noLeaf
+  leaf-low = getD-le noLeaf (leafOf (tableOf w) s) leaf-small

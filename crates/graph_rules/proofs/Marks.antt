@@ -11,12 +11,13 @@ use lib.Seq.{getD-take, drop-cons, length-take-le, getD-append-seam}
 use Rattle.lists.specs.Lists.{below, those, eqOption}
 use Rattle.lists.proofs.Elements.{getD-tab0, length-tab, all-at, map-at, option-sound}
 use Rattle.lists.proofs.Bools.{Is, is, no-is, none-some, lt-or-le, yes-is}
-use Rattle.lists.proofs.Distinct.{those-yes}
+use Rattle.lists.proofs.Those.{those-yes}
 use Rattle.graph_rules.specs.Graph.{State, Graph, blank, stateOf, to, acceptOf, earlyOf, leads}
 use Rattle.graph_rules.specs.Build.{present, children, acceptBy, agreed, withEarly, covered, cleared, withCleared}
 use Rattle.graph_rules.proofs.Agreed.{agreed-at}
 use Rattle.graph_rules.proofs.Views.{edge-leads, edge-within, out-blank}
 use Rattle.graph_rules.proofs.Merge.{rest}
+use Rattle.graph_rules.specs.Layout.{endStep, stepCount}
 
 some-within : (l : List (Option ℕ)) (i x : ℕ) → getD l i none ≡ some x → i < length l
 some-within [] i x e = absurd (none-some e)
@@ -64,24 +65,24 @@ module _ (g : Graph) where
   unfolding children to
   early-byte i l b e w h =
       let s = stateOf g i in
-      let rest = those present (drop 256 (s .steps)) in
-      let long : length (take 256 (s .steps)) ≡ 256 = length-take-le 256 (s .steps) w in
+      let rest = those present (drop endStep (s .steps)) in
+      let long : length (take endStep (s .steps)) ≡ 256 = length-take-le 256 (s .steps) w in
       let at : getD (children s) b none ≡ getD (s .steps) b none =
-      List·getD-append (take 256 (s .steps)) rest none b (omega arith) ∙ getD-take 256 (s .steps) b none h in
-      let size : length (children s) ≡ length (take 256 (s .steps)) + length rest = length-append (take 256 (s .steps)) rest in
+      List·getD-append (take endStep (s .steps)) rest none b (omega arith) ∙ getD-take endStep (s .steps) b none h in
+      let size : length (children s) ≡ length (take endStep (s .steps)) + length rest = length-append (take endStep (s .steps)) rest in
       accept-by l (getD (s .steps) b none) (ap (acceptBy g) (sym at) ∙ early-child i l b e (omega arith))
 
-  pub early-end : (i l j : ℕ) → earlyOf (withEarly g) i ≡ some l → to g i 256 ≡ some j → acceptOf g j ≡ some l
+  pub early-end : (i l j : ℕ) → earlyOf (withEarly g) i ≡ some l → to g i endStep ≡ some j → acceptOf g j ≡ some l
   unfolding children to
   early-end i l j e q =
       let s = stateOf g i in
       let p : Option ℕ → Bool = present in
-      let front = take 256 (s .steps) in
-      let split : drop 256 (s .steps) ≡ some j ∷ drop 257 (s .steps) =
-      drop-cons (s .steps) 256 none (some-within (s .steps) 256 j q) ∙ ap (λ (o : Option ℕ). o ∷ drop 257 (s .steps)) q in
-      let rest = those p (drop 257 (s .steps)) in
+      let front = take endStep (s .steps) in
+      let split : drop endStep (s .steps) ≡ some j ∷ drop stepCount (s .steps) =
+      drop-cons (s .steps) endStep none (some-within (s .steps) endStep j q) ∙ ap (λ (o : Option ℕ). o ∷ drop stepCount (s .steps)) q in
+      let rest = those p (drop stepCount (s .steps)) in
       let all : children s ≡ front ++ some j ∷ rest =
-      ap (λ (m : List (Option ℕ)). front ++ m) (ap (those p) split ∙ those-yes eqOption option-sound p (some j) (drop 257 (s .steps)) refl) in
+      ap (λ (m : List (Option ℕ)). front ++ m) (ap (those p) split ∙ those-yes p (some j) (drop stepCount (s .steps)) refl) in
       let size : length (children s) ≡ length front + length (some j ∷ rest) = ap length all ∙ length-append front (some j ∷ rest) in
       let at : getD (children s) (length front) none ≡ some j = ap (λ (m : List (Option ℕ)). getD m (length front) none) all ∙ getD-append-seam front (some j) rest none in
       ap (acceptBy g) (sym at) ∙ early-child i l (length front) e (omega arith)

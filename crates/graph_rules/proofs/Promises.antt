@@ -3,14 +3,14 @@ use mathlib.Core.Path.{_≡_, refl, sym, ap, subst, subst₂, _∙_}
 use mathlib.Core.Bool.{true}
 use mathlib.Core.List.{List, [], _∷_, _++_}
 use mathlib.Core.Option.{Option, none, some}
-use Prim.Native.Nat.{ℕ, zero, suc, _+_, _*_, _<_}
+use Prim.Native.Nat.{ℕ, zero, suc, _<_}
 use native.Mathlib.Omega.{arith}
 use lib.ListN.{length, getD}
 use Rattle.lists.proofs.Distinct.{Apart, apart-differ, apart-nil}
 use Rattle.lists.proofs.Elements.{nil-cons}
 use Rattle.lists.proofs.Numbering.{number-in}
 use Rattle.graph_rules.specs.Table.{Table, tableOf, refusal}
-use Rattle.graph_rules.specs.Graph.{State, Graph, blank, stateOf, to, acceptOf, earlyOf, same, FromRoot, stateWords, stateFrom, graphWords, graphBuffer, graphFrom, graphFits}
+use Rattle.graph_rules.specs.Graph.{Graph, blank, stateOf, to, acceptOf, earlyOf, same, FromRoot, graphWords, graphFrom, graphFits}
 use Rattle.graph_rules.specs.Build.{build, buildFrom, emptyLeaves, unpruned, pruned, merged, reached, leafOf, edge}
 use Rattle.graph_rules.specs.Read.{Bytes, Orderly, Clean, late, onward, walk, startAt, tableWalker, graphWalker, readTable, readGraph}
 use Rattle.graph_rules.proofs.Merge.{merged-apart, merged-path, merged-reads, rest, same-sound}
@@ -20,7 +20,8 @@ use Rattle.graph_rules.proofs.Alike.{walks-alike}
 use Rattle.graph_rules.proofs.Unpruned.{reached-start, un-facts}
 use Rattle.graph_rules.proofs.Reached.{kept-reached, un-root, un-root-within}
 use Rattle.graph_rules.proofs.Fits.{Fits, build-fits}
-use Rattle.graph_rules.proofs.Words.{buffer-length, graph-back, state-back, words-taken}
+use Rattle.graph_rules.proofs.Words.{graph-back, words-taken}
+use Rattle.graph_rules.specs.Layout.{endStep, stepCount}
 
 -- ---- no equal states
 
@@ -78,9 +79,9 @@ module _ (t : Table) (orderly : Orderly t) where
   -- a walk that starts at state 0 reads none
   zero-walk : (text : List ℕ) → Bytes text → walk (tableWalker t) 0 0 none text ≡ none
   unfolding tableWalker
-  zero-walk [] bytes = rw (orderly .zero-steps 256 (omega arith)) (late-zero (leafOf t 0))
+  zero-walk [] bytes = rw (orderly .zero-steps endStep (omega arith)) (late-zero (leafOf t 0))
   zero-walk (b ∷ text) bytes =
-      let h : b < 257 = let h′ : b < 256 = bytes 0 in omega arith in
+      let h : b < stepCount = let h′ : b < 256 = bytes 0 in omega arith in
       rw (orderly .zero-steps b h) (late-zero (leafOf t 0))
 
   table-walk : (s₀ : ℕ) → t .start ≡ some s₀ → (text : List ℕ) → Bytes text → readTable t text ≡ walk (tableWalker t) s₀ 0 none text
@@ -156,18 +157,6 @@ module _ (words : List ℕ) (legal : refusal words ≡ 0) where
 
   pub built-back : (rest : List ℕ) → graphFrom (graphWords built ++ rest) ≡ built
   built-back rest = graph-back (getD words 2 0) (getD words 0 0) (few-leaves words legal) (few-states words legal) built fits rest
-
-  pub built-length : length (graphBuffer (getD words 0 0) built) ≡ 2 + 258 * getD words 0 0
-  built-length = buffer-length (getD words 2 0) (getD words 0 0) (few-leaves words legal) (few-states words legal) built fits
-
-  -- no two states have the same 258 words
-  pub no-equal-words : (i j : ℕ) → i < j → j < length (built .states) → stateWords (stateOf built i) ≡ stateWords (stateOf built j) → ⊥
-  no-equal-words i j h k e =
-      let q : stateOf built i ≡ stateOf built j = sym (back i (omega arith)) ∙ ap stateFrom e ∙ back j k in
-      no-equal-states (tableOf words) i j h k (ap (λ (s : State). s .accept) q) (ap (λ (s : State). s .early) q) (ap (λ (s : State). s .steps) q)
-    where
-      back : (i : ℕ) → i < length (built .states) → stateFrom (stateWords (stateOf built i)) ≡ stateOf built i
-      back i h = state-back (getD words 2 0) (getD words 0 0) (few-leaves words legal) (few-states words legal) built fits i h
 
   pub words-alike : Orderly (tableOf words) → emptyLeaves (tableOf words) ≡ [] → (rest text : List ℕ) → Bytes text
       → readTable (tableOf words) text ≡ readGraph (graphFrom (graphWords built ++ rest)) text

@@ -1,7 +1,7 @@
 -- A graph restricted to a set of its states (rules 2 and 7), and the prune: from a state that is not kept nothing is recorded, so readings stay.
 -- Assumes nothing.
 use mathlib.Core.Path.{_≡_, refl, sym, ap, _∙_}
-use mathlib.Core.Bool.{Bool, true, not, _||_}
+use mathlib.Core.Bool.{Bool, true, _||_}
 use mathlib.Core.List.{List}
 use mathlib.Core.Option.{Option, none, some}
 use mathlib.Core.Logic.{⊎-elim}

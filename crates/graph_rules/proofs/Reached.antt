@@ -25,6 +25,7 @@ use Rattle.graph_rules.proofs.Marks.{cleared-length, early-length}
 use Rattle.graph_rules.proofs.Shape.{Shaped}
 use Rattle.graph_rules.proofs.Unpruned.{first-root, lengths, reached-below, reached-start, un-accept, un-byte, un-leads, un-to}
 use Rattle.graph_rules.proofs.Views.{leads-edge}
+use Rattle.graph_rules.specs.Layout.{stepCount}
 
 present-none : (o : Option ℕ) → present o ≡ true → o ≡ none → ⊥
 present-none none h e = false≢true h
@@ -107,7 +108,7 @@ module _ (t : Table) (sh : Shaped t) (s₀ : ℕ) (st : t .start ≡ some s₀) 
         (⊎-elim
         (λ b. orderly .zero-steps c b)
         (λ b. let w = sh .width 0 h in List·getD-eq-default (rowOf t 0 .steps) 0 (omega arith))
-        (lt-or-le c 257))
+        (lt-or-le c stepCount))
 
     -- a state other than 0 that the table reaches: the way there never meets state 0
     path : (s : ℕ) → Reach (stepsTo t) (size t) (eqb s₀) s → (s ≡ 0 → ⊥) → (i : ℕ) → Named names s i → FromRoot g i
@@ -120,7 +121,7 @@ module _ (t : Table) (sh : Shaped t) (s₀ : ℕ) (st : t .start ≡ some s₀) 
             let k-in : In (reached t s₀) k = in-reached t s₀ k r in
             let hk : k < size t = reached-below t sh s₀ st k k-in in
             let (c, b, q) = step-of t k s e in
-            let c′ : c < 257 = let w = sh .width k hk in omega arith in
+            let c′ : c < stepCount = let w = sh .width k hk in omega arith in
             let (j, m) = number-in 0 (reached t s₀) k k-in in
             let e′ : edge (step t k c) ≡ some s = ap edge q ∙ edge-of s z in
             let (i′, m′, e″) = un-leads t sh s₀ st k j c s m c′ e′ in

@@ -5,7 +5,6 @@ use mathlib.Core.List.{List, [], _∷_}
 use mathlib.Core.Option.{none, some}
 use mathlib.Core.Logic.{⊎-elim}
 use Prim.Native.Nat.{ℕ, zero, suc, _+_, _*_, _≤_, _<_}
-use native.Mathlib.Nat.{not-suc-le-zero, le-of-suc-le-suc, mul-suc}
 use native.Mathlib.Omega.{arith}
 use borrow.Author.Tests.{eq-eqb, ne-eqb, eqb-true, eqb-false, ltb-true, leb-true}
 use lib.Dec.{eqb, leb, ltb}
@@ -14,26 +13,27 @@ use lib.Seq.{length-take-le}
 use Rattle.lists.proofs.Pieces.{pieces-length, pieces-width}
 use Rattle.lists.specs.Lists.{allL, below, pieces}
 use Rattle.lists.proofs.Bools.{and-both, and-intro, or-cases, Is, is, no-is, none-some, some-inj, lt-or-le, yes-is}
-use Rattle.lists.proofs.Elements.{getD-tab0, length-tab, all-at, eqb-sound, map-at}
-use Rattle.lists.proofs.Distinct.{those-keep}
+use Rattle.lists.proofs.Elements.{getD-tab0, length-tab, all-at, map-at}
+use Rattle.lists.proofs.Those.{those-keep}
 use Rattle.graph_rules.specs.Table.{Row, Table, tableOf, size, rowOf, step, matchOf, matchFits, conditions, firstBroken, refusal, countsFit, emptiesFit, targetsFit, headsFit, recordsFit}
 use Rattle.graph_rules.specs.Build.{chainFrom, chain, contenders, single, leafOf}
+use Rattle.graph_rules.specs.Layout.{stepCount, noState, mostStates, rowWords, tableRow, headPlace, mostLeaves, tableLength}
 
 pub record Shaped (t : Table) : Type 0 where
   pub start-below : (s : ℕ) → t .start ≡ some s → s < size t
-  pub width : (s : ℕ) → s < size t → length (rowOf t s .steps) ≡ 257
+  pub width : (s : ℕ) → s < size t → length (rowOf t s .steps) ≡ stepCount
   pub step-below : (s c : ℕ) → s < size t → step t s c < size t
 
 -- ---- the start
 
 module _ (w : List ℕ) where
-  pub start-none : getD w 1 0 ≡ 65535 → tableOf w .start ≡ none
+  pub start-none : getD w 1 0 ≡ noState → tableOf w .start ≡ none
   unfolding tableOf
-  start-none e = rw (eq-eqb (getD w 1 0) 65535 e, tableOf)
+  start-none e = rw (eq-eqb (getD w 1 0) noState e, tableOf)
 
-  pub start-some : (getD w 1 0 ≡ 65535 → ⊥) → tableOf w .start ≡ some (getD w 1 0)
+  pub start-some : (getD w 1 0 ≡ noState → ⊥) → tableOf w .start ≡ some (getD w 1 0)
   unfolding tableOf
-  start-some n = rw (ne-eqb (getD w 1 0) 65535 n, tableOf)
+  start-some n = rw (ne-eqb (getD w 1 0) noState n, tableOf)
 
 -- ---- legal words
 
@@ -62,51 +62,51 @@ module _ (w : List ℕ) (legal : refusal w ≡ 0) where
   unfolding conditions countsFit emptiesFit targetsFit headsFit recordsFit
   some-state = leb-true 1 (getD w 0 0) (and-both (leb 1 (getD w 0 0)) _ (holds 1) .0)
 
-  ranges : (getD w 0 0 ≤ 1024) × (getD w 2 0 ≤ 255)
+  ranges : (getD w 0 0 ≤ mostStates) × (getD w 2 0 ≤ mostLeaves)
   unfolding conditions countsFit emptiesFit targetsFit headsFit recordsFit
   ranges =
       let a = and-both (leb 1 (getD w 0 0)) _ (holds 1) .1 in
-      let b = and-both (leb (getD w 0 0) 1024) _ a in
-      let c = and-both (leb (getD w 2 0) 255) _ (b .1) in
-      (leb-true (getD w 0 0) 1024 (b .0), leb-true (getD w 2 0) 255 (c .0))
+      let b = and-both (leb (getD w 0 0) mostStates) _ a in
+      let c = and-both (leb (getD w 2 0) mostLeaves) _ (b .1) in
+      (leb-true (getD w 0 0) mostStates (b .0), leb-true (getD w 2 0) mostLeaves (c .0))
 
-  pub few-states : getD w 0 0 ≤ 1024
+  pub few-states : getD w 0 0 ≤ mostStates
   few-states = ranges .0
 
-  pub few-leaves : getD w 2 0 ≤ 255
+  pub few-leaves : getD w 2 0 ≤ mostLeaves
   few-leaves = ranges .1
 
-  pub exact : length w ≡ 4 + 3 * getD w 2 0 + 258 * getD w 0 0 + 2 * getD w 3 0
+  pub exact : length w ≡ tableLength (getD w 0 0) (getD w 2 0) (getD w 3 0)
   unfolding conditions countsFit emptiesFit targetsFit headsFit recordsFit
-  exact = eqb-true (length w) (4 + 3 * getD w 2 0 + 258 * getD w 0 0 + 2 * getD w 3 0) (holds 2)
+  exact = eqb-true (length w) (tableLength (getD w 0 0) (getD w 2 0) (getD w 3 0)) (holds 2)
 
   abbrev rowPieces : List (List ℕ)
-  rowPieces = pieces 258 (getD w 0 0) (drop (4 + 3 * getD w 2 0) w)
+  rowPieces = pieces tableRow (getD w 0 0) (drop (4 + 3 * getD w 2 0) w)
 
   rows-are : length rowPieces ≡ getD w 0 0
-  rows-are = pieces-length 258 (getD w 0 0) _
+  rows-are = pieces-length rowWords (getD w 0 0) _
 
   pub size-is : size (tableOf w) ≡ getD w 0 0
   unfolding size tableOf
   size-is = length-map rowPieces _ ∙ rows-are
 
-  row-piece : (s : ℕ) → s < getD w 0 0 → length (getD rowPieces s []) ≡ 258
+  row-piece : (s : ℕ) → s < getD w 0 0 → length (getD rowPieces s []) ≡ tableRow
   row-piece s h =
       let e = exact in
-      pieces-width 258 (getD w 0 0) (drop (4 + 3 * getD w 2 0) w) (simp length-drop (omega arith)) s h
+      pieces-width tableRow (getD w 0 0) (drop (4 + 3 * getD w 2 0) w) (simp length-drop (omega arith)) s h
 
-  row-is : (s : ℕ) → s < getD w 0 0 → rowOf (tableOf w) s .steps ≡ take 257 (getD rowPieces s [])
+  row-is : (s : ℕ) → s < getD w 0 0 → rowOf (tableOf w) s .steps ≡ take stepCount (getD rowPieces s [])
   unfolding rowOf tableOf
   row-is s h =
       ap (λ (r : Row). r .steps)
-      (map-at (λ (p : List ℕ). record { steps = take 257 p; head = getD p 257 0 }) rowPieces s [] (record { steps = []; head = 0 })
+      (map-at (λ (p : List ℕ). record { steps = take stepCount p; head = getD p headPlace 0 }) rowPieces s [] (record { steps = []; head = 0 })
       (rw rows-are h))
 
-  pub legal-width : (s : ℕ) → s < size (tableOf w) → length (rowOf (tableOf w) s .steps) ≡ 257
+  pub legal-width : (s : ℕ) → s < size (tableOf w) → length (rowOf (tableOf w) s .steps) ≡ stepCount
   legal-width s h =
       let h′ : s < getD w 0 0 = rw size-is at h in
       let e = row-piece s h′ in
-      rw (row-is s h′) (length-take-le 257 (getD rowPieces s []) (omega arith))
+      rw (row-is s h′) (length-take-le stepCount (getD rowPieces s []) (omega arith))
 
   -- condition 6, at a row
   rows-fit : (s : ℕ) → s < size (tableOf w) → allL (λ k. ltb k (getD w 0 0)) (rowOf (tableOf w) s .steps) ≡ true
@@ -129,13 +129,13 @@ module _ (w : List ℕ) (legal : refusal w ≡ 0) where
 
   pub legal-start : (s : ℕ) → tableOf w .start ≡ some s → s < size (tableOf w)
   unfolding tableOf conditions countsFit emptiesFit targetsFit headsFit recordsFit
-  legal-start s e = go (is (eqb (getD w 1 0) 65535))
+  legal-start s e = go (is (eqb (getD w 1 0) noState))
     where
-      go : Is (eqb (getD w 1 0) 65535) → s < size (tableOf w)
+      go : Is (eqb (getD w 1 0) noState) → s < size (tableOf w)
       go (yes-is q) = absurd (none-some (rw (q, tableOf) at e))
       go (no-is q) =
           let e′ : getD w 1 0 ≡ s = some-inj (rw (q, tableOf) at e) in
-          let b = or-cases (ltb (getD w 1 0) (getD w 0 0)) (eqb (getD w 1 0) 65535) (holds 3) in
+          let b = or-cases (ltb (getD w 1 0) (getD w 0 0)) (eqb (getD w 1 0) noState) (holds 3) in
           let z = size-is in
           ⊎-elim (λ l. let l′ = ltb-true (getD w 1 0) (getD w 0 0) l in omega arith) (λ l. absurd (false≢true (sym q ∙ l))) b
 
@@ -190,7 +190,7 @@ module _ (w : List ℕ) (legal : refusal w ≡ 0) where
   legal-leaf s l e =
       let t = tableOf w in
       let c = chain-below (rowOf t s .head) (rowOf t s .head) (head-fits s) in
-      let b = ltb-true l (length (t .leaves)) (single-all (λ l. ltb l (length (t .leaves))) (contenders t s) (those-keep eqb eqb-sound _ (λ l. ltb l (length (t .leaves))) (chain t s) c) l e) in
+      let b = ltb-true l (length (t .leaves)) (single-all (λ l. ltb l (length (t .leaves))) (contenders t s) (those-keep _ (λ l. ltb l (length (t .leaves))) (chain t s) c) l e) in
       let z = table-leaves in
       omega arith
 

@@ -3,39 +3,40 @@ use mathlib.Core.Path.{_≡_, sym, subst, _∙_}
 use mathlib.Core.Bool.{true, _||_}
 use mathlib.Core.List.{List, []}
 use mathlib.Core.Logic.{_⊎_, inl, inr, ⊎-elim}
-use Prim.Native.Nat.{ℕ, _+_, _*_, _≤_, _<_}
+use Prim.Native.Nat.{ℕ, _≤_, _<_}
 use native.Mathlib.Omega.{arith}
 use borrow.Author.Tests.{eqb-true, leb-true, ltb-true}
 use lib.Dec.{eqb, leb, ltb}
 use lib.ListN.{length, getD, take, drop}
 use lib.Seq.{length-take-le, getD-take}
 use Rattle.lists.specs.Lists.{allL, pieces}
-use Rattle.lists.proofs.Bools.{and-both, or-cases, is}
+use Rattle.lists.proofs.Bools.{and-both, or-cases}
 use Rattle.lists.proofs.Elements.{all-at}
 use Rattle.lists.proofs.Pieces.{pieces-length, piece-word}
 use Rattle.graph_rules.specs.Graph.{graphFits}
 use Rattle.graph_rules.proofs.Flat.{piece-length}
+use Rattle.graph_rules.specs.Layout.{stepCount, noState, mostStates, rowWords, graphPlace, graphSize}
 
 module _ (w : List ℕ) (taken : graphFits w ≡ true) where
   abbrev n : ℕ
   n = getD w 0 0
 
   abbrev rows : List (List ℕ)
-  rows = pieces 258 n (drop 2 w)
+  rows = pieces rowWords n (drop 2 w)
 
   abbrev Parts : Type 0
-  Parts = (2 + 258 * n ≤ length w) × (n ≤ 1024)
-      × (allL (λ p. allL (λ u. ltb u n || eqb u 65535) (take 257 p)) rows ≡ true) × ((getD w 1 0 < n) ⊎ ((n ≡ 0) × (getD w 1 0 ≡ 0)))
+  Parts = (graphSize n ≤ length w) × (n ≤ mostStates)
+      × (allL (λ p. allL (λ u. ltb u n || eqb u noState) (take stepCount p)) rows ≡ true) × ((getD w 1 0 < n) ⊎ ((n ≡ 0) × (getD w 1 0 ≡ 0)))
 
   parts : Parts
   unfolding graphFits
   parts =
       let a = and-both (leb 2 (length w)) _ taken .1 in
-      let b = and-both (leb (2 + 258 * n) (length w)) _ a in
-      let c = and-both (leb n 1024) _ (b .1) in
-      let d = and-both (allL (λ p. allL (λ u. ltb u n || eqb u 65535) (take 257 p)) rows) _ (c .1) in (
-        leb-true (2 + 258 * n) (length w) (b .0),
-        leb-true n 1024 (c .0),
+      let b = and-both (leb (graphSize n) (length w)) _ a in
+      let c = and-both (leb n mostStates) _ (b .1) in
+      let d = and-both (allL (λ p. allL (λ u. ltb u n || eqb u noState) (take stepCount p)) rows) _ (c .1) in (
+        leb-true (graphSize n) (length w) (b .0),
+        leb-true n mostStates (c .0),
         d .0,
         ⊎-elim
             (λ h. inl (ltb-true (getD w 1 0) n h))
@@ -43,25 +44,25 @@ module _ (w : List ℕ) (taken : graphFits w ≡ true) where
             (or-cases (ltb (getD w 1 0) n) _ (d .1)),
       )
 
-  pub taken-long : 2 + 258 * getD w 0 0 ≤ length w
+  pub taken-long : graphSize (getD w 0 0) ≤ length w
   taken-long = parts .0
 
-  pub taken-few : getD w 0 0 ≤ 1024
+  pub taken-few : getD w 0 0 ≤ mostStates
   taken-few = parts .1
 
   pub taken-root : (getD w 1 0 < getD w 0 0) ⊎ ((getD w 0 0 ≡ 0) × (getD w 1 0 ≡ 0))
   taken-root = parts .3
 
   -- a target word is below the count, or 65,535
-  pub taken-target : (i c : ℕ) → i < getD w 0 0 → c < 257 → (getD w (2 + 258 * i + c) 0 < getD w 0 0) ⊎ (getD w (2 + 258 * i + c) 0 ≡ 65535)
+  pub taken-target : (i c : ℕ) → i < getD w 0 0 → c < stepCount → (getD w (graphPlace i c) 0 < getD w 0 0) ⊎ (getD w (graphPlace i c) 0 ≡ noState)
   taken-target i c h b =
       let p = getD rows i [] in
-      let long : length p ≡ 258 = piece-length w taken-long i h in
-      let short : length (take 257 p) ≡ 257 = length-take-le 257 p (omega arith) in
-      let row = all-at (λ p. allL (λ u. ltb u n || eqb u 65535) (take 257 p)) rows i [] (parts .2) (rw (pieces-length 258 n (drop 2 w)) h) in
-      let one : (ltb (getD (take 257 p) c 0) n || eqb (getD (take 257 p) c 0) 65535) ≡ true = all-at (λ u. ltb u n || eqb u 65535) (take 257 p) c 0 row (omega arith) in
-      let e : getD (take 257 p) c 0 ≡ getD w (2 + 258 * i + c) 0 = getD-take 257 p c 0 b ∙ piece-word w 2 258 n i c 0 h (omega arith) in
+      let long : length p ≡ rowWords = piece-length w taken-long i h in
+      let short : length (take stepCount p) ≡ stepCount = length-take-le stepCount p (omega arith) in
+      let row = all-at (λ p. allL (λ u. ltb u n || eqb u noState) (take stepCount p)) rows i [] (parts .2) (rw (pieces-length rowWords n (drop 2 w)) h) in
+      let one : (ltb (getD (take stepCount p) c 0) n || eqb (getD (take stepCount p) c 0) noState) ≡ true = all-at (λ u. ltb u n || eqb u noState) (take stepCount p) c 0 row (omega arith) in
+      let e : getD (take stepCount p) c 0 ≡ getD w (graphPlace i c) 0 = getD-take stepCount p c 0 b ∙ piece-word w 2 rowWords n i c 0 h (omega arith) in
       ⊎-elim
       (λ x. inl (subst (λ (y : ℕ). y < n) e (ltb-true _ n x)))
-      (λ x. inr (sym e ∙ eqb-true _ 65535 x))
-      (or-cases (ltb (getD (take 257 p) c 0) n) _ one)
+      (λ x. inr (sym e ∙ eqb-true _ noState x))
+      (or-cases (ltb (getD (take stepCount p) c 0) n) _ one)

@@ -26,6 +26,7 @@ use Rattle.graph_rules.proofs.Prune.{restrict-found, restrict-length, r
 use Rattle.graph_rules.proofs.Marks.{cleared-accept, cleared-early, cleared-to, covered-parent, early-accept, early-byte, early-end, early-length, early-to}
 use Rattle.graph_rules.proofs.Shape.{Shaped}
 use Rattle.graph_rules.proofs.Alike.{Facts}
+use Rattle.graph_rules.specs.Layout.{endStep, stepCount}
 
 -- ---- edges and steps
 
@@ -47,7 +48,7 @@ module _ (t : Table) (sh : Shaped t) (s₀ : ℕ) (st : t .start ≡ some s₀) 
   unfolding reached
   reached-start = closure-seed (stepsTo t) (size t) (eqb s₀) s₀ (sh .start-below s₀ st) (eq-eqb s₀ s₀ refl)
 
-  pub reached-step : (s c : ℕ) → In (reached t s₀) s → c < 257 → In (reached t s₀) (step t s c)
+  pub reached-step : (s c : ℕ) → In (reached t s₀) s → c < stepCount → In (reached t s₀) (step t s c)
   unfolding reached step
   reached-step s c h b =
       let w = sh .width s (reached-below s h) in
@@ -134,7 +135,7 @@ module _ (t : Table) (sh : Shaped t) (s₀ : ℕ) (st : t .start ≡ some s₀) 
   un-ends : (s i c : ℕ) → Named names s i → edge (step t s c) ≡ none → to (unpruned t s₀) i c ≡ none
   un-ends s i c n e = un-to s i n c ∙ ap (led names) e
 
-  pub un-leads : (s i c u : ℕ) → Named names s i → c < 257 → edge (step t s c) ≡ some u
+  pub un-leads : (s i c u : ℕ) → Named names s i → c < stepCount → edge (step t s c) ≡ some u
       → (j : ℕ) × Named names u j × (to (unpruned t s₀) i c ≡ some j)
   un-leads s i c u n h e =
       let (j, m) = number-in 0 (reached t s₀) u (subst (In (reached t s₀)) (edge-is _ u e) (reached-step s c (named-in s i n) h)) in
@@ -166,18 +167,18 @@ module _ (t : Table) (sh : Shaped t) (s₀ : ℕ) (st : t .start ≡ some s₀) 
       (u, e′, sym (first-accept u j m) ∙ a)
 
   module _ (orderly : Orderly t) where
-    un-end : (s i l : ℕ) → Named names s i → earlyOf (unpruned t s₀) i ≡ some l → (u : ℕ) × (edge (step t s 256) ≡ some u) × (leafOf t u ≡ some l)
-    un-end s i l n q = go (step t s 256) refl
+    un-end : (s i l : ℕ) → Named names s i → earlyOf (unpruned t s₀) i ≡ some l → (u : ℕ) × (edge (step t s endStep) ≡ some u) × (leafOf t u ≡ some l)
+    un-end s i l n q = go (step t s endStep) refl
       where
         all : (b : ℕ) → b < 256 → leafOf t (step t s b) ≡ some l
         all b h = let (u, e, a) = un-byte s i l b n q h in ap (leafOf t) (edge-is _ u e) ∙ a
 
-        go : (x : ℕ) → step t s 256 ≡ x → (u : ℕ) × (edge (step t s 256) ≡ some u) × (leafOf t u ≡ some l)
+        go : (x : ℕ) → step t s endStep ≡ x → (u : ℕ) × (edge (step t s endStep) ≡ some u) × (leafOf t u ≡ some l)
         go zero e = absurd (orderly .end-too s₀ s l st (named-in s i n) all e)
         go (suc u) e =
-            let e′ : edge (step t s 256) ≡ some (suc u) = ap edge e in
-            let (j, m, e″) = un-leads s i 256 (suc u) n (omega arith) e′ in
-            let e₁ : to first i 256 ≡ some j = first-to s i n 256 ∙ ap (led names) e′ ∙ m in
+            let e′ : edge (step t s endStep) ≡ some (suc u) = ap edge e in
+            let (j, m, e″) = un-leads s i endStep (suc u) n (omega arith) e′ in
+            let e₁ : to first i endStep ≡ some j = first-to s i n endStep ∙ ap (led names) e′ ∙ m in
             (suc u, e′, sym (first-accept (suc u) j m) ∙ early-end first i l j (sym (un-early i) ∙ q) e₁)
 
     pub un-facts : Facts t (unpruned t s₀) (Named names)

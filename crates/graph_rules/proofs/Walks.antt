@@ -9,6 +9,7 @@ use lib.ListN.{length, getD, drop, drop-of-length-le}
 use lib.Seq.{drop-cons}
 use Rattle.graph_rules.specs.Graph.{Graph, to, acceptOf, earlyOf}
 use Rattle.graph_rules.specs.Read.{Reading, Walker, late, onward, walk, graphWalker}
+use Rattle.graph_rules.specs.Layout.{endStep}
 
 -- nothing is recorded at a state, nor after it
 pub record Quiet (v : Walker) (s : ℕ) : Type 0 where
@@ -36,7 +37,7 @@ module _ (v w : Walker) (R : ℕ → ℕ → Type 0) (fol : Follows v w R) where
   pub follows-walk : (text : List ℕ) (s i : ℕ) → R s i → (k : ℕ) (r : Reading) → walk w i k r text ≡ walk v s k r text
   follows-walk [] s i h k r =
       rw (fol .enters s i h k r)
-      (onward-alike v R _ _ (fol .steps s i h 256) (v .enter s k r) _ _ (λ u j h′. fol .leaves u j h′ k (v .enter s k r)) (λ u m. m .still k (v .enter s k r)))
+      (onward-alike v R _ _ (fol .steps s i h endStep) (v .enter s k r) _ _ (λ u j h′. fol .leaves u j h′ k (v .enter s k r)) (λ u m. m .still k (v .enter s k r)))
   follows-walk (b ∷ text) s i h k r =
       rw (fol .enters s i h k r)
       (onward-alike v R _ _ (fol .steps s i h b) (v .enter s k r) _ _
@@ -49,7 +50,7 @@ pub walk-at : (w : Walker) (s k : ℕ) (r : Reading) (text : List ℕ) → k < l
 walk-at w s k r text h = rw (drop-cons text k 0 h)
 
 pub walk-done : (w : Walker) (s k : ℕ) (r : Reading) (text : List ℕ) → length text ≤ k
-    → walk w s k r (drop k text) ≡ onward (w .enter s k r) (λ u. w .leave u k (w .enter s k r)) (w .next s 256)
+    → walk w s k r (drop k text) ≡ onward (w .enter s k r) (λ u. w .leave u k (w .enter s k r)) (w .next s endStep)
 walk-done w s k r text h = rw (drop-of-length-le text h)
 
 -- ---- graphs
@@ -72,9 +73,9 @@ pub graph-quiet : (g : Graph) (Q : ℕ → Type 0) → ((s : ℕ) → Q s → ac
 unfolding graphWalker
 graph-quiet g Q a e f s h = record { still = λ k r. rw (a s h); mute = λ k r text. go text s h k r }
   where
-    end : (o : Option ℕ) (s : ℕ) → Q s → to g s 256 ≡ o → (k : ℕ) (r : Reading) → onward r (λ u. late (acceptOf g u) (suc k) r) o ≡ r
+    end : (o : Option ℕ) (s : ℕ) → Q s → to g s endStep ≡ o → (k : ℕ) (r : Reading) → onward r (λ u. late (acceptOf g u) (suc k) r) o ≡ r
     end none s h q k r = refl
-    end (some u) s h q k r = rw (a u (f s 256 u h q))
+    end (some u) s h q k r = rw (a u (f s endStep u h q))
 
     on : (text : List ℕ) → ((s : ℕ) → Q s → (k : ℕ) (r : Reading) → walk (graphWalker g) s k r text ≡ r)
         → (o : Option ℕ) (s b : ℕ) → Q s → to g s b ≡ o → (k : ℕ) (r : Reading) → onward r (λ u. walk (graphWalker g) u (suc k) r text) o ≡ r
@@ -82,5 +83,5 @@ graph-quiet g Q a e f s h = record { still = λ k r. rw (a s h); mute = λ k r t
     on text ih (some u) s b h q k r = ih u (f s b u h q) (suc k) r
 
     go : (text : List ℕ) (s : ℕ) → Q s → (k : ℕ) (r : Reading) → walk (graphWalker g) s k r text ≡ r
-    go [] s h k r = rw (e s h, a s h) (end (to g s 256) s h refl k r)
+    go [] s h k r = rw (e s h, a s h) (end (to g s endStep) s h refl k r)
     go (b ∷ text) s h k r = rw (e s h, a s h) (on text (go text) (to g s b) s b h refl k r)

@@ -9,6 +9,7 @@ use Rattle.lists.specs.Sets.{closure}
 use Rattle.lists.specs.Lists.{allL, below, anyL, those, select, distinct, place, eqOption, numberFrom, sorted}
 use Rattle.graph_rules.specs.Table.{Table, size, rowOf, leafAt, matchOf}
 use Rattle.graph_rules.specs.Graph.{State, Graph, stateOf, acceptOf, leads, same}
+use Rattle.graph_rules.specs.Layout.{endStep}
 
 -- ---- the errors, and their words: kind, leaf count, leaves
 
@@ -115,7 +116,7 @@ present (some u) = true
 
 -- the byte edges, there or not, and the end edge if there is one
 unfoldable pub children : State → List (Option ℕ)
-children s = take 256 (s .steps) ++ those present (drop 256 (s .steps))
+children s = take endStep (s .steps) ++ those present (drop endStep (s .steps))
 
 -- the accept that an edge leads to
 abbrev pub acceptBy : Graph → Option ℕ → Option ℕ

@@ -9,6 +9,7 @@ use lib.ListN.{length, getD, take}
 use Rattle.lists.specs.Lists.{allL, below, those, select}
 use Rattle.graph_rules.specs.Table.{Table, size, rowOf, step}
 use Rattle.graph_rules.specs.Build.{Error, noUniversalStart, emptyMatch, disambiguation, build, reached, chain, contenders, leafOf, present, agreed}
+use Rattle.graph_rules.specs.Layout.{endStep, noState}
 
 -- the first of a list
 abbrev pub first : List ℕ → Option ℕ
@@ -28,9 +29,9 @@ tied t s = leb 2 (length (contenders t s))
 
 -- where an error is: a tie at the lowest reached state that has one; 65,535 for the others, which belong to no state
 abbrev pub errorState : Table → Error → ℕ
-errorState t noUniversalStart = 65535
-errorState t (emptyMatch l) = 65535
-errorState t (disambiguation ls) = getD (reachedFrom t (t .start) (tied t)) 0 65535
+errorState t noUniversalStart = noState
+errorState t (emptyMatch l) = noState
+errorState t (disambiguation ls) = getD (reachedFrom t (t .start) (tied t)) 0 noState
 
 abbrev pub firstError : Table → List Error → Option ℕ
 firstError t [] = none
@@ -51,11 +52,11 @@ zeroAt t = cond (zeroDead t) none (some 0)
 
 -- the bytes' leaf, if they all lead to states of one
 unfoldable pub bytesLeaf : Table → ℕ → Option ℕ
-bytesLeaf t s = agreed (map (leafOf t) (take 256 (rowOf t s .steps)))
+bytesLeaf t s = agreed (map (leafOf t) (take endStep (rowOf t s .steps)))
 
 -- such a leaf is there, and no end step to a state other than 0
 unfoldable pub endless : Table → ℕ → Bool
-endless t s = present (bytesLeaf t s) && eqb (step t s 256) 0
+endless t s = present (bytesLeaf t s) && eqb (step t s endStep) 0
 
 unfoldable pub endAt : Table → Option ℕ
 endAt t = first (reachedFrom t (t .start) (endless t))

@@ -3,11 +3,12 @@ use mathlib.Core.Path.{_≡_}
 use mathlib.Core.Bool.{Bool, cond, _&&_, _||_}
 use mathlib.Core.List.{List, [], _∷_, _++_, map, flatMap}
 use mathlib.Core.Option.{Option, none, some, Option·getD}
-use Prim.Native.Nat.{ℕ, _+_, _*_, _-_, _/_, _%_}
+use Prim.Native.Nat.{ℕ, _*_, _-_}
 use lib.Dec.{eqb, leb, ltb}
 use lib.ListN.{length, getD, take, drop, replicate}
 use Rattle.lists.specs.Lists.{allL, eqList, eqOption, anyL, pieces}
 use Rattle.lists.specs.Sets.{closure}
+use Rattle.graph_rules.specs.Layout.{stepCount, noState, mostStates, rowWords, marksPlace, graphSize, noLeaf, marksWord, acceptIn, earlyIn}
 
 pub record State : Type 0 where
   pub steps : List (Option ℕ)  -- 257 targets: of the bytes 0 to 255, and at 256 of the end step; none: no edge
@@ -55,17 +56,17 @@ same a b = eqOption (a .accept) (b .accept) && (eqOption (a .early) (b .early) &
 
 -- ---- words
 
--- 256 targets and the end target, 65,535 for none, and the marks word, accept + 256 × early, with 255 for none
+-- 256 targets and the end target, and the marks
 unfoldable pub stateWords : State → List ℕ
-stateWords s = map (λ o. Option·getD o 65535) (s .steps) ++ ((Option·getD (s .accept) 255 + 256 * Option·getD (s .early) 255) ∷ [])
+stateWords s = map (λ o. Option·getD o noState) (s .steps) ++ (marksWord (Option·getD (s .accept) noLeaf) (Option·getD (s .early) noLeaf) ∷ [])
 
--- state count, root, then 258 words a state
+-- state count, root, then a row a state
 unfoldable pub graphWords : Graph → List ℕ
 graphWords g = length (g .states) ∷ g .root ∷ flatMap stateWords (g .states)
 
--- and zeros up to 2 + 258n, for a table of n states
+-- and zeros up to the words of n states, for a table of so many
 unfoldable pub graphBuffer : ℕ → Graph → List ℕ
-graphBuffer n g = graphWords g ++ replicate (258 * (n - length (g .states))) 0
+graphBuffer n g = graphWords g ++ replicate (rowWords * (n - length (g .states))) 0
 
 -- ---- words that come in: the same layout, read back
 
@@ -75,19 +76,19 @@ orNone word x = cond (eqb x word) none (some x)
 
 unfoldable pub stateFrom : List ℕ → State
 stateFrom p =
-    let marks = getD p 257 0 in
-    record { steps = map (orNone 65535) (take 257 p); accept = orNone 255 (marks % 256); early = orNone 255 (marks / 256) }
+    let marks = getD p marksPlace 0 in
+    record { steps = map (orNone noState) (take stepCount p); accept = orNone noLeaf (acceptIn marks); early = orNone noLeaf (earlyIn marks) }
 
 unfoldable pub graphFrom : List ℕ → Graph
-graphFrom w = record { states = map stateFrom (pieces 258 (getD w 0 0) (drop 2 w)); root = getD w 1 0 }
+graphFrom w = record { states = map stateFrom (pieces rowWords (getD w 0 0) (drop 2 w)); root = getD w 1 0 }
 
 -- refusal 12: "below 2, or below 2 + 258 a state, over 1,024 states, a target neither below the count nor 65,535, root not below the count (0 if none)"
 
 abbrev pub targetFits : ℕ → ℕ → Bool
-targetFits n u = ltb u n || eqb u 65535
+targetFits n u = ltb u n || eqb u noState
 
 abbrev pub rowFits : ℕ → List ℕ → Bool
-rowFits n p = allL (targetFits n) (take 257 p)
+rowFits n p = allL (targetFits n) (take stepCount p)
 
 abbrev pub rootFits : ℕ → ℕ → Bool
 rootFits n root = ltb root n || (eqb n 0 && eqb root 0)
@@ -95,4 +96,14 @@ rootFits n root = ltb root n || (eqb n 0 && eqb root 0)
 unfoldable pub graphFits : List ℕ → Bool
 graphFits w =
     let n = getD w 0 0 in
-    leb 2 (length w) && (leb (2 + 258 * n) (length w) && (leb n 1024 && (allL (rowFits n) (pieces 258 n (drop 2 w)) && rootFits n (getD w 1 0))))
+    leb 2 (length w) && (leb (graphSize n) (length w) && (leb n mostStates && (allL (rowFits n) (pieces rowWords n (drop 2 w)) && rootFits n (getD w 1 0))))
+
+-- ---- lent words
+
+-- after a graph is written over them, for a table of n states: what follows the words of n states is unchanged
+abbrev pub writtenOn : ℕ → Graph → List ℕ → List ℕ
+writtenOn n g w = graphBuffer n g ++ drop (graphSize n) w
+
+-- graph words after a rule of the build
+abbrev pub rewritten : (Graph → Graph) → List ℕ → List ℕ
+rewritten rule w = writtenOn (getD w 0 0) (rule (graphFrom w)) w

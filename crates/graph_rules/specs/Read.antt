@@ -8,6 +8,7 @@ use Rattle.lists.specs.Sets.{In}
 use Rattle.graph_rules.specs.Table.{Table, step}
 use Rattle.graph_rules.specs.Graph.{Graph, to, acceptOf, earlyOf}
 use Rattle.graph_rules.specs.Build.{build, chain, leafOf, reached, edge}
+use Rattle.graph_rules.specs.Layout.{endStep, stepCount}
 
 -- a text is a list of bytes
 abbrev pub Bytes : List ℕ → Type 0
@@ -39,7 +40,7 @@ onward r f (some u) = f u
 
 -- the walk from state s, after k byte steps and with last record r, over the rest of the text: a step for each byte, then the end step
 abbrev pub walk : Walker → ℕ → ℕ → Reading → List ℕ → Reading
-walk w s k r [] = let q = w .enter s k r in onward q (λ u. w .leave u k q) (w .next s 256)
+walk w s k r [] = let q = w .enter s k r in onward q (λ u. w .leave u k q) (w .next s endStep)
 walk w s k r (b ∷ text) = let q = w .enter s k r in onward q (λ u. walk w u (suc k) q text) (w .next s b)
 
 -- ---- a table: "the walk ends at state 0, which records nothing"; "a state entered by step k that has a leaf records (leaf, k − 1)"
@@ -84,10 +85,10 @@ readGraph g text = walk (graphWalker g) (g .root) 0 none text
 pub record Orderly (t : Table) : Type 0 where
   -- "state 0 has an empty chain and all its steps lead to 0", reached or not
   pub zero-chain : chain t 0 ≡ []
-  pub zero-steps : (c : ℕ) → c < 257 → step t 0 c ≡ 0
+  pub zero-steps : (c : ℕ) → c < stepCount → step t 0 c ≡ 0
   -- "a reached state whose 256 byte steps all lead to states of one same leaf has an end step to a state other than 0"
   pub end-too : (s₀ s l : ℕ) → t .start ≡ some s₀ → In (reached t s₀) s
-      → ((b : ℕ) → b < 256 → leafOf t (step t s b) ≡ some l) → step t s 256 ≡ 0 → ⊥
+      → ((b : ℕ) → b < 256 → leafOf t (step t s b) ≡ some l) → step t s endStep ≡ 0 → ⊥
 
 pub record Clean (t : Table) : Type 0 where
   -- "no error in the build"

@@ -7,6 +7,7 @@ use Prim.Native.Nat.{ℕ, zero, suc, _+_, _*_}
 use lib.Dec.{eqb, leb, ltb}
 use lib.ListN.{length, getD, take, drop}
 use Rattle.lists.specs.Lists.{allL, below, pieces}
+use Rattle.graph_rules.specs.Layout.{stepCount, noState, mostStates, tableRow, headPlace, mostLeaves, mostMatches, tableLength}
 
 pub record Leaf : Type 0 where
   pub priority : ℕ
@@ -27,7 +28,7 @@ pub record Table : Type 0 where
   pub rows : List Row
   pub matches : List Match
 
--- ---- the words: n, start, m, r; then three a leaf, 258 a state, two a match record
+-- ---- the words: n, start, m, r; then three a leaf, a row a state, two a match record
 
 unfoldable pub tableOf : List ℕ → Table
 tableOf w =
@@ -36,10 +37,10 @@ tableOf w =
     let m = getD w 2 0 in
     let r = getD w 3 0 in
     record {
-      start = elim (eqb start 65535) [ true ↦ none | false ↦ some start ];
+      start = elim (eqb start noState) [ true ↦ none | false ↦ some start ];
       leaves = map (λ p. record { priority = getD p 0 0 + 65536 * getD p 1 0; empty = getD p 2 0 }) (pieces 3 m (drop 4 w));
-      rows = map (λ p. record { steps = take 257 p; head = getD p 257 0 }) (pieces 258 n (drop (4 + 3 * m) w));
-      matches = map (λ p. record { leaf = getD p 0 0; next = getD p 1 0 }) (pieces 2 r (drop (4 + 3 * m + 258 * n) w));
+      rows = map (λ p. record { steps = take stepCount p; head = getD p headPlace 0 }) (pieces tableRow n (drop (4 + 3 * m) w));
+      matches = map (λ p. record { leaf = getD p 0 0; next = getD p 1 0 }) (pieces 2 r (drop (4 + 3 * m + tableRow * n) w));
     }
 
 -- ---- views
@@ -72,7 +73,7 @@ matchFits t i =
 
 -- 2: "n, m or r out of range"
 unfoldable pub countsFit : ℕ → ℕ → ℕ → Bool
-countsFit n m r = leb 1 n && (leb n 1024 && (leb m 255 && leb r 4095))
+countsFit n m r = leb 1 n && (leb n mostStates && (leb m mostLeaves && leb r mostMatches))
 
 -- 5: "empty flag above 1"
 unfoldable pub emptiesFit : List ℕ → Bool
@@ -98,8 +99,8 @@ conditions w =
     let r = getD w 3 0 in
     leb 4 (length w) ∷  -- 1
     countsFit n m r ∷  -- 2
-    eqb (length w) (4 + 3 * m + 258 * n + 2 * r) ∷  -- 3
-    (ltb start n || eqb start 65535) ∷  -- 4
+    eqb (length w) (tableLength n m r) ∷  -- 3
+    (ltb start n || eqb start noState) ∷  -- 4
     emptiesFit w ∷  -- 5
     targetsFit w ∷  -- 6
     (headsFit w && recordsFit w) ∷ []  -- 7

@@ -5,7 +5,7 @@ ghost use Prim.Native.Nat.{_<_, _≤_};
 ghost use lib.ListN.{getD};
 ghost use Rattle.graph_rules.specs.Table.{tableOf, refusal, rowOf, matchOf};
 ghost use Rattle.graph_rules.specs.Build.{leafOf};
-ghost use Rattle.words.specs.Places.{matchPlace};
+ghost use Rattle.graph_rules.specs.Layout.{noLeaf, matchPlace};
 ghost use Rattle.leaves.specs.Chains.{priorityAt, highestFrom, firstWith, topOf, nextTied};
 use words::table::leaf_word;
 use words::table::leaves;
@@ -122,7 +122,7 @@ pub fn next_tied(table: &[u16], i: usize) -> usize
 pub fn leaf_of(table: &[u16], s: usize) -> usize
     requires { ⌜ refusal (now table) ≡ 0 ⌝ }
     requires { ⌜ s < getD (now table) 0 0 ⌝ }
-    ensures { λ r. ⌜ r ≡ Option·getD (leafOf (tableOf (now (table .entry))) s) 255 ⌝ }
+    ensures { λ r. ⌜ r ≡ Option·getD (leafOf (tableOf (now (table .entry))) s) noLeaf ⌝ }
 {
     let i = top(table, s);
     if i == 0 {

@@ -16,6 +16,7 @@ use Rattle.graph_rules.specs.Table.{Leaf, Row, tableOf, rowOf, leafAt, matchOf,
 use Rattle.graph_rules.proofs.Flat.{step-word, head-word, empty-word, leaf-word, next-word}
 use Rattle.legal.specs.Conditions.{states, leaves, records, emptyWord, targetWord, headWord, leafWord, nextWord, Sized, RecordFits}
 use Rattle.legal.proofs.Counts.{leaves-length, rows-length, row-width}
+use Rattle.graph_rules.specs.Layout.{stepCount, headPlace}
 
 module _ (w : List ℕ) where
   -- ---- 5
@@ -30,17 +31,17 @@ module _ (w : List ℕ) where
   -- ---- 6
 
   row-judged : Sized w → (s : ℕ) → s < states w
-      → Judged (allL (λ u. ltb u (states w)) (rowOf (tableOf w) s .steps)) 257 (λ c. targetWord w s c < states w)
+      → Judged (allL (λ u. ltb u (states w)) (rowOf (tableOf w) s .steps)) stepCount (λ c. targetWord w s c < states w)
   unfolding step
   row-judged z s h =
-      all-judged (λ u. ltb u (states w)) (λ c. targetWord w s c < states w) (rowOf (tableOf w) s .steps) 0 257 (row-width w z s h)
+      all-judged (λ u. ltb u (states w)) (λ c. targetWord w s c < states w) (rowOf (tableOf w) s .steps) 0 headPlace (row-width w z s h)
       (λ c b t. lt-ltb (step (tableOf w) s c) (states w) (rw (step-word w s c h b) t))
       (λ c b e. rw (step-word w s c h b) at (ltb-true (step (tableOf w) s c) (states w) e))
 
-  pub targets-judged : Sized w → Judged (targetsFit w) (states w) (λ s. (c : ℕ) → c < 257 → targetWord w s c < states w)
+  pub targets-judged : Sized w → Judged (targetsFit w) (states w) (λ s. (c : ℕ) → c < stepCount → targetWord w s c < states w)
   unfolding targetsFit rowOf
   targets-judged z =
-      all-judged (λ (row : Row). allL (λ u. ltb u (states w)) (row .steps)) (λ s. (c : ℕ) → c < 257 → targetWord w s c < states w)
+      all-judged (λ (row : Row). allL (λ u. ltb u (states w)) (row .steps)) (λ s. (c : ℕ) → c < stepCount → targetWord w s c < states w)
       (tableOf w .rows) (record { steps = []; head = 0 }) (states w) (rows-length w)
       (λ s h f. row-judged z s h .all f)
       (λ s h e. row-judged z s h .each e)

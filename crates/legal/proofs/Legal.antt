@@ -14,7 +14,7 @@ use lib.ListN.{length, getD}
 use Rattle.lists.proofs.Bools.{and-both, and-intro, or-cases, or-left, or-right}
 use Rattle.graph_rules.specs.Table.{conditions, firstBroken, refusal, countsFit, emptiesFit, targetsFit, headsFit, recordsFit}
 use Rattle.graph_rules.proofs.Shape.{none-broken}
-use Rattle.words.specs.Places.{tableLength}
+use Rattle.graph_rules.specs.Layout.{noState, mostStates, noLeaf, mostMatches, tableLength}
 use Rattle.legal.specs.Conditions.{states, leaves, records, Sized, Legal}
 use Rattle.legal.proofs.Judging.{empties-judged, targets-judged, heads-judged, records-all, records-each}
 
@@ -57,19 +57,19 @@ module _ (w : List ℕ) where
   unfolding conditions countsFit emptiesFit targetsFit headsFit recordsFit
   counts-are n m r a b c = λ i. countsFit (a i) (b i) (c i)
 
-  pub counts-pass : 1 ≤ states w → states w ≤ 1024 → leaves w ≤ 255 → records w ≤ 4095 → getD (conditions w) 1 true ≡ true
+  pub counts-pass : 1 ≤ states w → states w ≤ mostStates → leaves w ≤ noLeaf → records w ≤ mostMatches → getD (conditions w) 1 true ≡ true
   unfolding conditions countsFit emptiesFit targetsFit headsFit recordsFit
   counts-pass a b c d =
-      and-intro (leb 1 (states w)) _ (le-leb 1 (states w) a) (and-intro (leb (states w) 1024) _ (le-leb (states w) 1024 b)
-      (and-intro (leb (leaves w) 255) _ (le-leb (leaves w) 255 c) (le-leb (records w) 4095 d)))
+      and-intro (leb 1 (states w)) _ (le-leb 1 (states w) a) (and-intro (leb (states w) mostStates) _ (le-leb (states w) mostStates b)
+      (and-intro (leb (leaves w) noLeaf) _ (le-leb (leaves w) noLeaf c) (le-leb (records w) mostMatches d)))
 
-  pub counts-mean : getD (conditions w) 1 true ≡ true → (1 ≤ states w) × (states w ≤ 1024) × (leaves w ≤ 255) × (records w ≤ 4095)
+  pub counts-mean : getD (conditions w) 1 true ≡ true → (1 ≤ states w) × (states w ≤ mostStates) × (leaves w ≤ noLeaf) × (records w ≤ mostMatches)
   unfolding conditions countsFit emptiesFit targetsFit headsFit recordsFit
   counts-mean e =
       let a = and-both (leb 1 (states w)) _ e in
-      let b = and-both (leb (states w) 1024) _ (a .1) in
-      let c = and-both (leb (leaves w) 255) _ (b .1) in
-      (leb-true 1 (states w) (a .0), leb-true (states w) 1024 (b .0), leb-true (leaves w) 255 (c .0), leb-true (records w) 4095 (c .1))
+      let b = and-both (leb (states w) mostStates) _ (a .1) in
+      let c = and-both (leb (leaves w) noLeaf) _ (b .1) in
+      (leb-true 1 (states w) (a .0), leb-true (states w) mostStates (b .0), leb-true (leaves w) noLeaf (c .0), leb-true (records w) mostMatches (c .1))
 
   pub sized-means : Passed w 3 → Sized w
   unfolding conditions countsFit emptiesFit targetsFit headsFit recordsFit
@@ -91,19 +91,19 @@ module _ (w : List ℕ) where
       (passed-more 1 (passed-more 0 passed-none (le-leb 4 (length w) (z .four))) (counts-pass (z .some-state) (z .few-states) (z .few-leaves) (z .few-records)))
       (eq-eqb (length w) (tableLength (states w) (leaves w) (records w)) (z .exact))
 
-  pub start-pass : (getD w 1 0 < states w) ⊎ (getD w 1 0 ≡ 65535) → getD (conditions w) 3 true ≡ true
+  pub start-pass : (getD w 1 0 < states w) ⊎ (getD w 1 0 ≡ noState) → getD (conditions w) 3 true ≡ true
   unfolding conditions countsFit emptiesFit targetsFit headsFit recordsFit
   start-pass f =
       ⊎-elim
       (λ b. or-left (ltb (getD w 1 0) (states w)) _ (lt-ltb (getD w 1 0) (states w) b))
-      (λ e. or-right (ltb (getD w 1 0) (states w)) _ (eq-eqb (getD w 1 0) 65535 e))
+      (λ e. or-right (ltb (getD w 1 0) (states w)) _ (eq-eqb (getD w 1 0) noState e))
       f
 
-  pub start-means : getD (conditions w) 3 true ≡ true → (getD w 1 0 < states w) ⊎ (getD w 1 0 ≡ 65535)
+  pub start-means : getD (conditions w) 3 true ≡ true → (getD w 1 0 < states w) ⊎ (getD w 1 0 ≡ noState)
   unfolding conditions countsFit emptiesFit targetsFit headsFit recordsFit
   start-means e =
-      ⊎-elim (λ b. inl (ltb-true (getD w 1 0) (states w) b)) (λ b. inr (eqb-true (getD w 1 0) 65535 b))
-      (or-cases (ltb (getD w 1 0) (states w)) (eqb (getD w 1 0) 65535) e)
+      ⊎-elim (λ b. inl (ltb-true (getD w 1 0) (states w) b)) (λ b. inr (eqb-true (getD w 1 0) noState b))
+      (or-cases (ltb (getD w 1 0) (states w)) (eqb (getD w 1 0) noState) e)
 
   -- ---- both ways
 

@@ -5,7 +5,7 @@ use mathlib.Core.List.{List}
 use mathlib.Core.Logic.{_⊎_}
 use Prim.Native.Nat.{ℕ, _≤_, _<_}
 use lib.ListN.{length, getD}
-use Rattle.words.specs.Places.{leafPlace, rowPlace, matchPlace, tableLength}
+use Rattle.graph_rules.specs.Layout.{stepCount, noState, mostStates, noLeaf, headPlace, mostMatches, leafPlace, rowPlace, matchPlace, tableLength}
 
 -- ---- the words, by what they say
 
@@ -27,7 +27,7 @@ abbrev pub targetWord : List ℕ → ℕ → ℕ → ℕ
 targetWord w s c = getD w (rowPlace (leaves w) s c) 0
 
 abbrev pub headWord : List ℕ → ℕ → ℕ
-headWord w s = getD w (rowPlace (leaves w) s 257) 0
+headWord w s = getD w (rowPlace (leaves w) s headPlace) 0
 
 -- of match record i, from 1
 abbrev pub leafWord : List ℕ → ℕ → ℕ
@@ -42,9 +42,9 @@ nextWord w i = getD w (matchPlace (leaves w) (states w) i 1) 0
 pub record Sized (w : List ℕ) : Type 0 where
   pub four : 4 ≤ length w
   pub some-state : 1 ≤ states w
-  pub few-states : states w ≤ 1024
-  pub few-leaves : leaves w ≤ 255
-  pub few-records : records w ≤ 4095
+  pub few-states : states w ≤ mostStates
+  pub few-leaves : leaves w ≤ noLeaf
+  pub few-records : records w ≤ mostMatches
   pub exact : length w ≡ tableLength (states w) (leaves w) (records w)
 
 -- "a record's leaf is below m, its next is below its own number, and the leaf at next is greater"
@@ -55,8 +55,8 @@ pub record RecordFits (w : List ℕ) (i : ℕ) : Type 0 where
 
 pub record Legal (w : List ℕ) : Type 0 where
   pub sized : Sized w
-  pub start : (getD w 1 0 < states w) ⊎ (getD w 1 0 ≡ 65535)  -- 4
+  pub start : (getD w 1 0 < states w) ⊎ (getD w 1 0 ≡ noState)  -- 4
   pub empties : (l : ℕ) → l < leaves w → emptyWord w l ≤ 1  -- 5
-  pub targets : (s c : ℕ) → s < states w → c < 257 → targetWord w s c < states w  -- 6
+  pub targets : (s c : ℕ) → s < states w → c < stepCount → targetWord w s c < states w  -- 6
   pub heads : (s : ℕ) → s < states w → headWord w s ≤ records w  -- 7
   pub matches : (i : ℕ) → 0 < i → i ≤ records w → RecordFits w i  -- 7

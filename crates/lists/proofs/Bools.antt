@@ -1,6 +1,6 @@
 -- Bools, Options and tests of two numbers, by cases. Assumes nothing.
 use mathlib.Core.Path.{_≡_, refl, sym}
-use mathlib.Core.Bool.{Bool, true, false, _&&_, _||_, false≢true}
+use mathlib.Core.Bool.{Bool, true, false, not, _&&_, _||_, false≢true}
 use mathlib.Core.Option.{Option, none, some}
 use mathlib.Core.Logic.{_⊎_, inl, inr}
 use Prim.Native.Nat.{ℕ, _<_, _≤_}
@@ -97,3 +97,22 @@ lt-or-le a b = go (is (ltb a b))
     go : Is (ltb a b) → (a < b) ⊎ (b ≤ a)
     go (yes-is q) = inl (ltb-true a b q)
     go (no-is q) = inr (ltb-false a b q)
+
+-- ---- what a disjunction tells
+
+pub or-neither : (a b : Bool) → (a || b) ≡ false → (a ≡ false) × (b ≡ false)
+or-neither true b h = absurd (false≢true (sym h))
+or-neither false b h = (refl, h)
+
+pub neither-or : (a b : Bool) → a ≡ false → b ≡ false → (a || b) ≡ false
+neither-or true b h k = h
+neither-or false b h k = k
+
+pub or-other : (a b : Bool) → a ≡ false → (a || b) ≡ true → b ≡ true
+or-other true b f h = absurd (false≢true (sym f))
+or-other false b f h = h
+
+-- a disjunction with a negation is an implication
+pub implied : (a b : Bool) → (not a || b) ≡ true → a ≡ true → b ≡ true
+implied true b h e = h
+implied false b h e = absurd (false≢true e)

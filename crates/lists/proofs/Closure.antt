@@ -1,17 +1,18 @@
 -- The closure of a seed under an edge relation: the inductive predicate and the list that computes agree (`closure-sound`, `closure-complete`).
 -- `closure-is`: what a worklist shows. Assumes nothing.
-use mathlib.Core.Path.{_≡_, refl, sym, ap, subst, _∙_}
+use mathlib.Core.Path.{_≡_, sym, ap, subst, _∙_}
 use mathlib.Core.Bool.{Bool, true, false, _&&_, _||_, false≢true}
 use mathlib.Core.List.{List, [], _∷_}
 use mathlib.Core.Logic.{_⊎_, inl, inr, ⊎-elim}
-use Prim.Native.Nat.{ℕ, zero, suc, _+_, _≤_, _<_, zero-le, suc-le-suc}
+use Prim.Native.Nat.{ℕ, zero, suc, _<_, zero-le, suc-le-suc}
 use native.Mathlib.Nat.{not-suc-le-zero, le-of-suc-le-suc, eq-or-lt-of-le}
 use native.Mathlib.Omega.{arith}
 use lib.ListN.{length, getD}
 use Rattle.lists.specs.Lists.{tab}
-use Rattle.lists.specs.Sets.{anyB, In, Sub, count, Reach, from-seed, by-edge, round, rounds, closure}
+use Rattle.lists.specs.Sets.{anyB, In, Sub, Reach, from-seed, by-edge, round, rounds, closure}
 use Rattle.lists.proofs.Bools.{or-cases, or-left, or-right, and-both, and-intro, bool-ext}
 use Rattle.lists.proofs.Elements.{length-tab, getD-tab0}
+use Rattle.lists.proofs.Counting.{settled}
 
 -- ---- some number below n
 
@@ -30,32 +31,6 @@ any-elim (suc n) p h =
     (λ e. (n, omega arith, e))
     (λ r. let (k, l, e) = any-elim n p r in (k, omega arith, e))
     (or-cases (p n) (anyB n p) h)
-
--- ---- the number of members
-
-pub count-length : (l : List Bool) → count l ≤ length l
-count-length [] = zero-le
-count-length (true ∷ l) = suc-le-suc (count-length l)
-count-length (false ∷ l) = let h = count-length l in omega arith
-
-pub count-le : (a b : List Bool) → Sub a b → count a ≤ count b
-count-le [] b h = zero-le
-count-le (true ∷ a) [] h = absurd (false≢true (h zero refl))
-count-le (false ∷ a) [] h = count-le a [] (λ i. h (suc i))
-count-le (true ∷ a) (true ∷ b) h = suc-le-suc (count-le a b (λ i. h (suc i)))
-count-le (true ∷ a) (false ∷ b) h = absurd (false≢true (h zero refl))
-count-le (false ∷ a) (true ∷ b) h = let r = count-le a b (λ i. h (suc i)) in omega arith
-count-le (false ∷ a) (false ∷ b) h = count-le a b (λ i. h (suc i))
-
--- a set in another of as many members is that other
-pub count-eq : (a b : List Bool) → length a ≡ length b → Sub a b → count b ≤ count a → a ≡ b
-count-eq [] [] e h c = refl
-count-eq [] (y ∷ b) e h c = absurd (omega arith)
-count-eq (x ∷ a) [] e h c = absurd (omega arith)
-count-eq (true ∷ a) (true ∷ b) e h c = ap (_∷_ true) (count-eq a b (omega arith) (λ i. h (suc i)) (omega arith))
-count-eq (true ∷ a) (false ∷ b) e h c = absurd (false≢true (h zero refl))
-count-eq (false ∷ a) (true ∷ b) e h c = let r = count-le a b (λ i. h (suc i)) in absurd (omega arith)
-count-eq (false ∷ a) (false ∷ b) e h c = ap (_∷_ false) (count-eq a b (omega arith) (λ i. h (suc i)) c)
 
 -- ---- rounds
 
@@ -98,34 +73,12 @@ module _ (edge : ℕ → ℕ → Bool) (n : ℕ) where
   grows : (s : List Bool) → length s ≡ n → Sub s (round edge n s)
   grows s e i h = round-keeps s i (subst (λ (m : ℕ). i < m) e (in-below s i h)) h
 
-  -- a round that adds nothing changes nothing
-  settles : (s : List Bool) → length s ≡ n → count (round edge n s) ≤ count s → round edge n s ≡ s
-  settles s e c = sym (count-eq s (round edge n s) (e ∙ sym (round-length s)) (grows s e) c)
-
-  -- after r rounds nothing more comes, or there are r members at least
-  progress : (r : ℕ) (s : List Bool) → length s ≡ n
-      → (round edge n (rounds edge n r s) ≡ rounds edge n r s) ⊎ (r ≤ count (rounds edge n r s))
-  unfolding rounds
-  progress zero s e = inr zero-le
-  progress (suc r) s e = go (rounds edge n r s) (rounds-length r s e) (progress r s e)
-    where
-      go : (x : List Bool) → length x ≡ n → (round edge n x ≡ x) ⊎ (r ≤ count x)
-          → (round edge n (round edge n x) ≡ round edge n x) ⊎ (suc r ≤ count (round edge n x))
-      go x l (inl st) = inl (ap (round edge n) st)
-      go x l (inr c) =
-          ⊎-elim
-          (λ same. inl (ap (round edge n) (settles x l (omega arith))))
-          (λ more. inr (omega arith))
-          (eq-or-lt-of-le (count-le x (round edge n x) (grows x l)))
-
   -- n rounds are enough
   stable : (s : List Bool) → length s ≡ n → round edge n (rounds edge n n s) ≡ rounds edge n n s
+  unfolding rounds
   stable s e =
-      let l = rounds-length n s e in
-      let y = round edge n (rounds edge n n s) in
-      let cy : count y ≤ length y = count-length y in
-      let ly : length y ≡ n = round-length (rounds edge n n s) in
-      ⊎-elim (λ st. st) (λ c. settles (rounds edge n n s) l (omega arith)) (progress n s e)
+      settled n (λ r. rounds edge n r s) (λ r. rounds-length r s e) (λ r. grows (rounds edge n r s) (rounds-length r s e))
+      (λ r. round edge n (rounds edge n r s) ≡ rounds edge n r s) (λ r. sym) (λ r. ap (round edge n)) 0 zero-le n (omega arith)
 
 module _ (edge : ℕ → ℕ → Bool) (n : ℕ) (seed : ℕ → Bool) where
   pub closure-length : length (closure edge n seed) ≡ n

@@ -10,8 +10,9 @@ use native.Mathlib.Omega.{arith}
 use borrow.Author.Tests.{not-true}
 use lib.ListN.{length, getD}
 use Rattle.lists.specs.Lists.{allL, anyL, those, distinct, place}
-use Rattle.lists.proofs.Bools.{Is, is, yes-is, no-is, none-some, some-inj, and-both, and-intro, or-cases, or-left, or-right}
-use Rattle.lists.proofs.Elements.{Sound, same-sym}
+use Rattle.lists.proofs.Bools.{Is, is, yes-is, no-is, none-some, some-inj, or-cases, or-left, or-right}
+use Rattle.lists.proofs.Elements.{Sound, same-sym, all-at}
+use Rattle.lists.proofs.Those.{those-yes, those-no, those-length, those-all, those-append, those-keep, those-pass, those-from}
 
 module _ {A : Type 0} (same : A → A → Bool) (sound : Sound same) where
   -- ---- the place of an element
@@ -72,17 +73,12 @@ module _ {A : Type 0} (same : A → A → Bool) (sound : Sound same) where
     apart-nil : Apart []
     apart-cons : {x : A} {l : List A} → allL (λ y. not (same x y)) l ≡ true → Apart l → Apart (x ∷ l)
 
-  all-get : (p : A → Bool) (d : A) (l : List A) (i : ℕ) → allL p l ≡ true → i < length l → p (getD l i d) ≡ true
-  all-get p d [] i a h = absurd (not-suc-le-zero h)
-  all-get p d (x ∷ l) zero a h = and-both (p x) _ a .0
-  all-get p d (x ∷ l) (suc i) a h = all-get p d l i (and-both (p x) _ a .1) (le-of-suc-le-suc h)
-
   pub place-apart : (d : A) (l : List A) → Apart l → (i : ℕ) → i < length l → place same (getD l i d) l ≡ some i
   place-apart d [] a i h = absurd (not-suc-le-zero h)
   place-apart d (x ∷ l) (apart-cons f a) zero h = place-here x x l (sound .self x)
   place-apart d (x ∷ l) (apart-cons f a) (suc i) h =
       place-later (getD l i d) x l
-      (same-sym same sound x (getD l i d) (not-true _ (all-get (λ y. not (same x y)) d l i f (le-of-suc-le-suc h))))
+      (same-sym same sound x (getD l i d) (not-true _ (all-at (λ y. not (same x y)) l i d f (le-of-suc-le-suc h))))
       i (place-apart d l a i (le-of-suc-le-suc h))
 
   pub apart-differ : (d : A) (l : List A) → Apart l → (i j : ℕ) → i < j → j < length l → getD l i d ≡ getD l j d → ⊥
@@ -94,64 +90,13 @@ module _ {A : Type 0} (same : A → A → Bool) (sound : Sound same) where
   -- ---- those that pass a test
 
   module _ (p : A → Bool) where
-    pub those-yes : (x : A) (l : List A) → p x ≡ true → those p (x ∷ l) ≡ x ∷ those p l
-    those-yes x l q = rw (q, those)
-
-    those-no : (x : A) (l : List A) → p x ≡ false → those p (x ∷ l) ≡ those p l
-    those-no x l q = rw (q, those)
-
-    those-length : (l : List A) → length (those p l) ≤ length l
-    those-length [] = zero-le
-    those-length (x ∷ l) = go (is (p x)) (those-length l)
-      where
-        go : Is (p x) → length (those p l) ≤ length l → length (those p (x ∷ l)) ≤ length (x ∷ l)
-        go (yes-is q) h = rw (those-yes x l q) (suc-le-suc h)
-        go (no-is q) h = rw (those-no x l q) (omega arith)
-
-    -- where none is left out
-    those-all : (l : List A) → length l ≤ length (those p l) → those p l ≡ l
-    those-all [] h = refl
-    those-all (x ∷ l) h = go (is (p x)) (those-all l)
-      where
-        go : Is (p x) → (length l ≤ length (those p l) → those p l ≡ l) → those p (x ∷ l) ≡ x ∷ l
-        go (yes-is q) f = those-yes x l q ∙ ap (_∷_ x) (f (le-of-suc-le-suc (rw (those-yes x l q) at h)))
-        go (no-is q) f =
-            let k = those-length l in
-            let h′ : length (x ∷ l) ≤ length (those p l) = rw (those-no x l q) at h in
-            absurd (omega arith)
-
-    those-append : (l m : List A) → those p (l ++ m) ≡ those p l ++ those p m
-    those-append [] m = refl
-    those-append (x ∷ l) m = go (is (p x)) (those-append l m)
-      where
-        go : Is (p x) → those p (l ++ m) ≡ those p l ++ those p m → those p (x ∷ (l ++ m)) ≡ those p (x ∷ l) ++ those p m
-        go (yes-is q) e = rw (those-yes x (l ++ m) q, those-yes x l q) (ap (_∷_ x) e)
-        go (no-is q) e = rw (those-no x (l ++ m) q, those-no x l q) e
-
-    -- what every element passes, those pass
-    pub those-keep : (r : A → Bool) (l : List A) → allL r l ≡ true → allL r (those p l) ≡ true
-    those-keep r [] a = refl
-    those-keep r (x ∷ l) a = go (is (p x)) (those-keep r l (and-both (r x) _ a .1))
-      where
-        go : Is (p x) → allL r (those p l) ≡ true → allL r (those p (x ∷ l)) ≡ true
-        go (yes-is q) h = rw (those-yes x l q) (and-intro _ _ (and-both (r x) _ a .0) h)
-        go (no-is q) h = rw (those-no x l q) h
-
-    those-pass : (l : List A) → allL p (those p l) ≡ true
-    those-pass [] = refl
-    those-pass (x ∷ l) = go (is (p x)) (those-pass l)
-      where
-        go : Is (p x) → allL p (those p l) ≡ true → allL p (those p (x ∷ l)) ≡ true
-        go (yes-is q) h = rw (those-yes x l q) (and-intro _ _ q h)
-        go (no-is q) h = rw (those-no x l q) h
-
     those-apart : (l : List A) → Apart l → Apart (those p l)
     those-apart [] a = apart-nil
     those-apart (x ∷ l) (apart-cons f a) = go (is (p x)) (those-apart l a)
       where
         go : Is (p x) → Apart (those p l) → Apart (those p (x ∷ l))
-        go (yes-is q) h = rw (those-yes x l q) (apart-cons (those-keep (λ y. not (same x y)) l f) h)
-        go (no-is q) h = rw (those-no x l q) h
+        go (yes-is q) h = rw (those-yes p x l q) (apart-cons (those-keep p (λ y. not (same x y)) l f) h)
+        go (no-is q) h = rw (those-no p x l q) h
 
     -- an element that passes is still there
     those-any : (x : A) → p x ≡ true → (l : List A) → anyL (same x) l ≡ true → anyL (same x) (those p l) ≡ true
@@ -160,28 +105,10 @@ module _ {A : Type 0} (same : A → A → Bool) (sound : Sound same) where
       where
         go : Is (p y) → ((same x y ≡ true) ⊎ (anyL (same x) l ≡ true)) → (anyL (same x) l ≡ true → anyL (same x) (those p l) ≡ true)
             → anyL (same x) (those p (y ∷ l)) ≡ true
-        go (yes-is q) (inl s) f = rw (those-yes y l q) (or-left _ _ s)
-        go (yes-is q) (inr r) f = rw (those-yes y l q) (or-right (same x y) _ (f r))
+        go (yes-is q) (inl s) f = rw (those-yes p y l q) (or-left _ _ s)
+        go (yes-is q) (inr r) f = rw (those-yes p y l q) (or-right (same x y) _ (f r))
         go (no-is q) (inl s) f = absurd (false≢true (sym q ∙ ap p (sym (sound .eq x y s)) ∙ px))
-        go (no-is q) (inr r) f = rw (those-no y l q) (f r)
-
-    -- each of them was there
-    those-from : (d : A) (l : List A) (i : ℕ) → i < length (those p l) → (k : ℕ) × (k < length l) × (getD l k d ≡ getD (those p l) i d)
-    those-from d [] i h = absurd (not-suc-le-zero h)
-    those-from d (x ∷ l) i h = go (is (p x)) (those-from d l) i h
-      where
-        up : (i : ℕ) → ((k : ℕ) × (k < length l) × (getD l k d ≡ getD (those p l) i d)) → (k : ℕ) × (k < length (x ∷ l)) × (getD (x ∷ l) k d ≡ getD (those p l) i d)
-        up i f = let (k, b, e) = f in (suc k, suc-le-suc b, e)
-
-        there : ((i : ℕ) → i < length (those p l) → (k : ℕ) × (k < length l) × (getD l k d ≡ getD (those p l) i d)) → (i : ℕ) → i < length (x ∷ those p l)
-            → (k : ℕ) × (k < length (x ∷ l)) × (getD (x ∷ l) k d ≡ getD (x ∷ those p l) i d)
-        there f zero h = (zero, suc-le-suc zero-le, refl)
-        there f (suc i) h = up i (f i (le-of-suc-le-suc h))
-
-        go : Is (p x) → ((i : ℕ) → i < length (those p l) → (k : ℕ) × (k < length l) × (getD l k d ≡ getD (those p l) i d)) → (i : ℕ)
-            → i < length (those p (x ∷ l)) → (k : ℕ) × (k < length (x ∷ l)) × (getD (x ∷ l) k d ≡ getD (those p (x ∷ l)) i d)
-        go (yes-is q) f i h = rw (those-yes x l q) (there f i (rw (those-yes x l q) at h))
-        go (no-is q) f i h = rw (those-no x l q) (up i (f i (rw (those-no x l q) at h)))
+        go (no-is q) (inr r) f = rw (those-no p y l q) (f r)
 
   -- ---- the distinct elements
 

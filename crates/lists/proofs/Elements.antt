@@ -1,15 +1,14 @@
 -- A test of every element of a list, an element of a list made of a function, a test of equality, a list filled from the front. Assumes nothing.
 use mathlib.Core.Path.{_≡_, refl, sym, ap, _∙_}
 use mathlib.Core.Bool.{Bool, true, false, _&&_, false≢true}
-use mathlib.Core.List.{List, [], _∷_, _++_, map}
+use mathlib.Core.List.{List, [], _∷_, map}
 use mathlib.Core.Option.{Option, none, some}
 use Prim.Native.Nat.{ℕ, zero, suc, _+_, _<_, zero-le, suc-le-suc}
 use native.Mathlib.Nat.{not-suc-le-zero, le-of-suc-le-suc, add-zero}
-use native.Mathlib.Numerals.{add-one}
 use native.Mathlib.Omega.{arith}
 use borrow.Author.Tests.{eq-eqb, eqb-true}
 use lib.Dec.{eqb}
-use lib.ListN.{length, getD, set, drop, replicate}
+use lib.ListN.{length, getD}
 use Rattle.lists.specs.Lists.{tab, allL, eqList, eqOption}
 use Rattle.lists.proofs.Bools.{Is, is, yes-is, no-is, and-both, and-intro, and-right-false}
 
@@ -57,16 +56,6 @@ module _ {A : Type 0} where
   all-false p [] i d h e = absurd (not-suc-le-zero h)
   all-false p (x ∷ l) zero d h e = ap (λ (b : Bool). b && allL p l) e
   all-false p (x ∷ l) (suc i) d h e = and-right-false (p x) (allL p l) (all-false p l i d (le-of-suc-le-suc h) e)
-
-  -- one more place filled from the front
-  fill-suc : (n : ℕ) (v : A) (d : List A) → n < length d → set (replicate n v ++ drop n d) n v ≡ replicate (suc n) v ++ drop (suc n) d
-  fill-suc zero v [] h = absurd (not-suc-le-zero h)
-  fill-suc zero v (x ∷ d) h = refl
-  fill-suc (suc n) v [] h = absurd (not-suc-le-zero h)
-  fill-suc (suc n) v (x ∷ d) h = ap {B = List A} (λ r. v ∷ r) (fill-suc n v d (le-of-suc-le-suc h))
-
-  pub fill-one : (n : ℕ) (v : A) (d : List A) → n < length d → set (replicate n v ++ drop n d) n v ≡ replicate (n + 1) v ++ drop (n + 1) d
-  fill-one n v d h = rw add-one (fill-suc n v d h)
 
 -- ---- a test of equality
 

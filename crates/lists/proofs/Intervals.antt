@@ -7,8 +7,7 @@ use Prim.Native.Nat.{ℕ, zero, suc, _+_, _≤_, _<_}
 use native.Mathlib.Omega.{arith}
 use lib.ListN.{length}
 use Rattle.lists.specs.Lists.{tab, allL, anyL, those}
-use Rattle.lists.proofs.Bools.{Is, is, yes-is, no-is, and-both, and-intro, or-cases, Order, order, less, equal, more}
-use Rattle.lists.proofs.Disjunctions.{or-neither}
+use Rattle.lists.proofs.Bools.{Is, is, yes-is, no-is, and-both, and-intro, or-cases, Order, order, less, equal, more, or-neither}
 
 -- the m numbers from s on
 abbrev pub from : ℕ → ℕ → List ℕ

@@ -1,6 +1,7 @@
 pub mod Bools
 pub mod Elements
 pub mod Pieces
+pub mod Counting
 pub mod Closure
 pub mod Worklist
 pub mod Numbering
@@ -16,7 +17,6 @@ pub mod Selections
 pub mod Grid
 pub mod Runs
 pub mod Members
-pub mod Disjunctions
 pub mod Intervals
 pub mod Selecting
 pub mod Numbers

@@ -55,9 +55,6 @@ module _ (set : List Bool) (s : ℕ) (h : s < length set) where
   pub members-out : getD set s false ≡ false → members set (s + 1) ≡ members set s
   members-out i = members-next ∙ ap (λ (b : Bool). members set s ++ select (b ∷ []) (s ∷ [])) i ∙ append-nil (members set s)
 
-  pub members-count : length (members set s) ≡ count (take s set)
-  members-count = select-count (take s set) (below s) lengths
-
 -- ---- lists made of each element, one after another
 
 module _ {A B : Type 0} (f : A → List B) where

@@ -10,8 +10,8 @@ use lib.Dec.{ltb, leb}
 use lib.ListN.{length, getD}
 use Rattle.lists.specs.Lists.{tab, below, allL, those}
 use Rattle.lists.proofs.Bools.{Is, is, yes-is, no-is, and-both, and-intro}
-use Rattle.lists.proofs.Elements.{all-at, eqb-sound}
-use Rattle.lists.proofs.Distinct.{those-keep}
+use Rattle.lists.proofs.Elements.{all-at}
+use Rattle.lists.proofs.Those.{those-keep}
 
 pub data Rising : List ℕ → Type 0 where
   rising-nil : Rising []
@@ -41,7 +41,7 @@ rising-those p [] r = rising-nil
 rising-those p (x ∷ l) (rising-cons a r) = go (is (p x)) (rising-those p l r)
   where
     go : Is (p x) → Rising (those p l) → Rising (those p (x ∷ l))
-    go (yes-is q) s = rw (q, those) (rising-cons (those-keep _ eqb-sound p (ltb x) l a) s)
+    go (yes-is q) s = rw (q, those) (rising-cons (those-keep p (ltb x) l a) s)
     go (no-is q) s = rw (q, those) s
 
 -- between a and m there are m - a places

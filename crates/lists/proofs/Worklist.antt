@@ -3,15 +3,15 @@
 use mathlib.Core.Path.{_≡_, refl, sym, ap, subst, _∙_}
 use mathlib.Core.Bool.{Bool, true, false, false≢true}
 use mathlib.Core.List.{List, [], _∷_}
-use mathlib.Core.Logic.{_⊎_, inl, inr, ⊎-elim, _≢_}
-use Prim.Native.Nat.{ℕ, zero, suc, _+_, _-_, _≤_, _<_, zero-le, suc-le-suc}
+use mathlib.Core.Logic.{_⊎_, inl, inr, ⊎-elim}
+use Prim.Native.Nat.{ℕ, zero, suc, _+_, _-_, _≤_, _<_, zero-le}
 use native.Mathlib.Nat.{not-suc-le-zero, le-of-suc-le-suc, eq-or-lt-of-le}
 use native.Mathlib.Omega.{arith}
 use lib.ListN.{length, getD, set, take, length-set, replicate, length-replicate}
 use native.Mathlib.Numerals.{add-one}
 use lib.Seq.{getD-set-same, getD-set-other}
 use Rattle.lists.specs.Sets.{In, count}
-use Rattle.lists.proofs.Closure.{count-length}
+use Rattle.lists.proofs.Counting.{count-length}
 
 -- ---- one more member
 pub in-keeps : (l : List Bool) (i k : ℕ) → In l k → In (set l i true) k

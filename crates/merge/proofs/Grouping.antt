@@ -28,6 +28,7 @@ use Rattle.graph_rules.proofs.Nones.{or-none, or-number}
 use Rattle.merge.specs.Equals.{Lowest}
 use Rattle.relabel.specs.Names.{namesOf, Fitting}
 use Rattle.relabel.proofs.Naming.{relabel-alike, fitting-alike, round-fitting}
+use Rattle.graph_rules.specs.Layout.{noState, mostStates}
 
 -- ---- an element that equals one of a list
 
@@ -93,29 +94,29 @@ module _ (g : Graph) where
   -- ---- the states before s have been grouped, in k groups
 
   pub record Grouped (s k : ℕ) (names : List ℕ) (stay : List Bool) : Type 0 where
-    pub len : length names ≡ 1024
-    pub wide : length stay ≡ 1024
+    pub len : length names ≡ mostStates
+    pub wide : length stay ≡ mostStates
     pub size : k ≡ length (groups s)
     pub lowest : select (take s stay) (g .states) ≡ groups s
     pub twin : (e : ℕ) → e < s → getD stay e false ≡ false → (f : ℕ) × (f < e) × (stateOf g f ≡ stateOf g e)
-    pub named : (i : ℕ) → i < s → orNone 65535 (getD names i 65535) ≡ place same (stateOf g i) (distinct same (g .states))
+    pub named : (i : ℕ) → i < s → orNone noState (getD names i noState) ≡ place same (stateOf g i) (distinct same (g .states))
     pub off : (i : ℕ) → s ≤ i → getD stay i false ≡ false
-    pub unnamed : (i : ℕ) → s ≤ i → getD names i 65535 ≡ 65535
+    pub unnamed : (i : ℕ) → s ≤ i → getD names i noState ≡ noState
 
-  pub grouped-none : Grouped 0 0 (replicate 1024 65535) (replicate 1024 false)
+  pub grouped-none : Grouped 0 0 (replicate mostStates noState) (replicate mostStates false)
   grouped-none =
       record {
-        len = length-replicate {A = ℕ} 1024 65535;
-        wide = length-replicate {A = Bool} 1024 false;
+        len = length-replicate {A = ℕ} mostStates noState;
+        wide = length-replicate {A = Bool} mostStates false;
         size = refl;
         lowest = refl;
         twin = λ e h. absurd (not-suc-le-zero h);
         named = λ i h. absurd (not-suc-le-zero h);
-        off = λ i h. none-in 1024 i;
-        unnamed = λ i h. replicate-at 65535 1024 i;
+        off = λ i h. none-in mostStates i;
+        unnamed = λ i h. replicate-at noState mostStates i;
       }
 
-  module _ (s k : ℕ) (names : List ℕ) (stay : List Bool) (v : Grouped s k names stay) (h : s < length (g .states)) (small : s < 1024) where
+  module _ (s k : ℕ) (names : List ℕ) (stay : List Bool) (v : Grouped s k names stay) (h : s < length (g .states)) (small : s < mostStates) where
     pub grouped-low : k ≤ s
     grouped-low =
         let a = v .size in
@@ -138,11 +139,11 @@ module _ (g : Graph) where
           lowest = selected ∙ sym more;
           twin = below-more _ s (λ e b o. v .twin e b (sym (away e b) ∙ o)) (λ o. absurd (false≢true (sym o ∙ here)));
           named = below-more _ s
-              (λ i b. ap (orNone 65535) (getD-set-other names s i k 65535 (λ q. let z : i ≡ s = q in omega arith)) ∙ v .named i b)
-              (ap (orNone 65535) (getD-set-same names s k 65535 (omega arith)) ∙ or-number 65535 k (λ q. omega arith)
+              (λ i b. ap (orNone noState) (getD-set-other names s i k noState (λ q. let z : i ≡ s = q in omega arith)) ∙ v .named i b)
+              (ap (orNone noState) (getD-set-same names s k noState (omega arith)) ∙ or-number noState k (λ q. omega arith)
               ∙ ap {B = Option ℕ} some (v .size) ∙ sym (place-is s h (l .before)));
           off = λ i b. getD-set-other stay s i true false (λ q. let z : i ≡ s = q in omega arith) ∙ v .off i (omega arith);
-          unnamed = λ i b. getD-set-other names s i k 65535 (λ q. let z : i ≡ s = q in omega arith) ∙ v .unnamed i (omega arith);
+          unnamed = λ i b. getD-set-other names s i k noState (λ q. let z : i ≡ s = q in omega arith) ∙ v .unnamed i (omega arith);
         }
       where
         here : In (set stay s true) s
@@ -168,11 +169,11 @@ module _ (g : Graph) where
           lowest = select-out stay (g .states) s (v .off s (omega arith)) ∙ v .lowest ∙ sym same-groups;
           twin = below-more _ s (v .twin) (λ o. (r, b, l .equal));
           named = below-more _ s
-              (λ i c. ap (orNone 65535) (getD-set-other names s i (getD names r 0) 65535 (λ q. let z : i ≡ s = q in omega arith)) ∙ v .named i c)
-              (ap (orNone 65535) (getD-set-same names s (getD names r 0) 65535 (omega arith) ∙ default-any 0 65535 names r (omega arith))
+              (λ i c. ap (orNone noState) (getD-set-other names s i (getD names r 0) noState (λ q. let z : i ≡ s = q in omega arith)) ∙ v .named i c)
+              (ap (orNone noState) (getD-set-same names s (getD names r 0) noState (omega arith) ∙ default-any 0 noState names r (omega arith))
               ∙ v .named r b ∙ ap (λ (y : State). place same y (distinct same (g .states))) (l .equal));
           off = λ i c. v .off i (omega arith);
-          unnamed = λ i c. getD-set-other names s i (getD names r 0) 65535 (λ q. let z : i ≡ s = q in omega arith) ∙ v .unnamed i (omega arith);
+          unnamed = λ i c. getD-set-other names s i (getD names r 0) noState (λ q. let z : i ≡ s = q in omega arith) ∙ v .unnamed i (omega arith);
         }
 
   -- ---- all states have been grouped
@@ -190,10 +191,10 @@ module _ (g : Graph) where
     alike : (u : ℕ) → getD (namesOf words) u none ≡ getD (names g) u none
     unfolding stateOf
     alike u =
-        List·getD-map (orNone 65535) words u 65535
+        List·getD-map (orNone noState) words u noState
         ∙ ⊎-elim
         (λ h. v .named u h ∙ sym (map-at (λ s. place same s (distinct same (g .states))) (g .states) u blank none h))
-        (λ h. or-none 65535 _ (v .unnamed u h) ∙ sym (List·getD-eq-default (names g) none (rw (length-map (g .states) (λ s. place same s (distinct same (g .states)))) h)))
+        (λ h. or-none noState _ (v .unnamed u h) ∙ sym (List·getD-eq-default (names g) none (rw (length-map (g .states) (λ s. place same s (distinct same (g .states)))) h)))
         (lt-or-le u (length (g .states)))
 
     pub round-is : relabel (namesOf words) (select stay (g .states)) (g .root) ≡ mergeRound g

@@ -17,6 +17,7 @@ use Rattle.graph_rules.proofs.Merge.{same-sound, round-length}
 use Rattle.graph_rules.proofs.Flat.{from-length}
 use Rattle.words.proofs.GraphWords.{taken-fits}
 use Rattle.words.proofs.Buffers.{buffer-back, taken-words, written-over}
+use Rattle.graph_rules.specs.Layout.{mostStates, graphSize, noLeaf}
 
 -- ---- rounds
 
@@ -63,15 +64,15 @@ merged-goes g e =
 pub record Merging (w₀ w : List ℕ) : Type 0 where
   pub taken : graphFits w ≡ true
   pub len : length w ≡ length w₀
-  pub fits : Fits 255 (getD w₀ 0 0) (graphFrom w)
-  pub buffer : w ≡ graphBuffer (getD w₀ 0 0) (graphFrom w) ++ drop (2 + 258 * getD w₀ 0 0) w₀
+  pub fits : Fits noLeaf (getD w₀ 0 0) (graphFrom w)
+  pub buffer : w ≡ graphBuffer (getD w₀ 0 0) (graphFrom w) ++ drop (graphSize (getD w₀ 0 0)) w₀
   pub left : merged (graphFrom w) .graph ≡ merged (graphFrom w₀) .graph
 
 pub merging-none : (w₀ : List ℕ) → graphFits w₀ ≡ true → ((i : ℕ) → getD w₀ i 0 < 65536) → Merging w₀ w₀
 merging-none w₀ taken small =
     record { taken = taken; len = refl; fits = taken-fits w₀ taken small; buffer = taken-words w₀ taken small; left = refl }
 
-module _ (w₀ : List ℕ) (few : getD w₀ 0 0 ≤ 1024) (w : List ℕ) (m : Merging w₀ w) where
+module _ (w₀ : List ℕ) (few : getD w₀ 0 0 ≤ mostStates) (w : List ℕ) (m : Merging w₀ w) where
   abbrev n : ℕ
   n = getD w₀ 0 0
 
@@ -79,22 +80,22 @@ module _ (w₀ : List ℕ) (few : getD w₀ 0 0 ≤ 1024) (w : List ℕ) (m : Me
   g = graphFrom w
 
   abbrev rest : List ℕ
-  rest = drop (2 + 258 * n) w₀
+  rest = drop (graphSize n) w₀
 
-  pub merging-done : mergesNone (graphFrom w) ≡ true → w ≡ graphBuffer (getD w₀ 0 0) (merged (graphFrom w₀) .graph) ++ drop (2 + 258 * getD w₀ 0 0) w₀
+  pub merging-done : mergesNone (graphFrom w) ≡ true → w ≡ graphBuffer (getD w₀ 0 0) (merged (graphFrom w₀) .graph) ++ drop (graphSize (getD w₀ 0 0)) w₀
   merging-done e = m .buffer ∙ ap (λ (x : Graph). graphBuffer n x ++ rest) (sym (merged-stops g e) ∙ m .left)
 
   module _ (e : mergesNone (graphFrom w) ≡ false) (v : List ℕ)
-      (round : v ≡ graphBuffer (getD w 0 0) (mergeRound (graphFrom w)) ++ drop (2 + 258 * getD w 0 0) w) where
+      (round : v ≡ graphBuffer (getD w 0 0) (mergeRound (graphFrom w)) ++ drop (graphSize (getD w 0 0)) w) where
     written : v ≡ graphBuffer n (mergeRound g) ++ rest
     written =
         let fewer = round-fewer g e in
-        round ∙ ap (λ (k : ℕ). graphBuffer k (mergeRound g) ++ drop (2 + 258 * k) w) (sym (from-length w))
-        ∙ ap (λ (x : List ℕ). graphBuffer (length (g .states)) (mergeRound g) ++ drop (2 + 258 * length (g .states)) x) (m .buffer)
-        ∙ written-over 255 n (omega arith) few g (m .fits) (mergeRound g) (omega arith) rest
+        round ∙ ap (λ (k : ℕ). graphBuffer k (mergeRound g) ++ drop (graphSize k) w) (sym (from-length w))
+        ∙ ap (λ (x : List ℕ). graphBuffer (length (g .states)) (mergeRound g) ++ drop (graphSize (length (g .states))) x) (m .buffer)
+        ∙ written-over noLeaf n (omega arith) few g (m .fits) (mergeRound g) (omega arith) rest
 
     read : graphFrom v ≡ mergeRound g
-    read = ap graphFrom written ∙ buffer-back 255 n (omega arith) few (mergeRound g) (round-fits 255 n g (m .fits)) rest
+    read = ap graphFrom written ∙ buffer-back noLeaf n (omega arith) few (mergeRound g) (round-fits noLeaf n g (m .fits)) rest
 
     -- a round leaves fewer states
     pub merging-less : getD v 0 0 < getD w 0 0
@@ -110,7 +111,7 @@ module _ (w₀ : List ℕ) (few : getD w₀ 0 0 ≤ 1024) (w : List ℕ) (m : Me
         record {
           taken = taken;
           len = len ∙ m .len;
-          fits = rw read (round-fits 255 n g (m .fits));
+          fits = rw read (round-fits noLeaf n g (m .fits));
           buffer = rw read written;
           left = ap (λ (x : Graph). merged x .graph) read ∙ merged-goes g e ∙ m .left;
         }

@@ -8,7 +8,7 @@ ghost use mathlib.Core.Bool.{true, false, not, cond};
 ghost use mathlib.Core.List.{_++_};
 ghost use Prim.Native.Nat.{ℕ, _+_, _*_, _<_};
 ghost use lib.ListN.{getD, drop};
-ghost use Rattle.graph_rules.specs.Graph.{graphFits, graphFrom, graphBuffer, stateOf};
+ghost use Rattle.graph_rules.specs.Graph.{graphFits, graphFrom, rewritten, stateOf};
 ghost use Rattle.graph_rules.specs.Build.{mergeRound, mergesNone, merged};
 ghost use Rattle.merge.specs.Equals.{Lowest};
 
@@ -43,7 +43,7 @@ fn first_equal(graph: &[u16], stay: &[bool; 1024], s: usize) -> usize
 fn merge_round(graph: &mut [u16]) -> bool
     requires { ⌜ graphFits (now graph) ≡ true ⌝ }
     ensures { λ r. ⌜ r ≡ not (mergesNone (graphFrom (now (graph .entry)))) ⌝ }
-    ensures { λ r. ⌜ now (graph .exit) ≡ cond (mergesNone (graphFrom (now (graph .entry)))) (now (graph .entry)) (graphBuffer (getD (now (graph .entry)) 0 0) (mergeRound (graphFrom (now (graph .entry)))) ++ drop (2 + 258 * getD (now (graph .entry)) 0 0) (now (graph .entry))) ⌝ }
+    ensures { λ r. ⌜ now (graph .exit) ≡ cond (mergesNone (graphFrom (now (graph .entry)))) (now (graph .entry)) (rewritten mergeRound (now (graph .entry))) ⌝ }
     ensures { λ r. ⌜ graphFits (now (graph .exit)) ≡ true ⌝ }
 {
     let n = word(graph, 0);
@@ -73,7 +73,7 @@ fn merge_round(graph: &mut [u16]) -> bool
 // Merges equal states in rounds, until a round merges nothing.
 pub fn merge(graph: &mut [u16])
     requires { ⌜ graphFits (now graph) ≡ true ⌝ }
-    ensures { λ _. ⌜ now (graph .exit) ≡ graphBuffer (getD (now (graph .entry)) 0 0) (merged (graphFrom (now (graph .entry))) .graph) ++ drop (2 + 258 * getD (now (graph .entry)) 0 0) (now (graph .entry)) ⌝ }
+    ensures { λ _. ⌜ now (graph .exit) ≡ rewritten (λ g. merged g .graph) (now (graph .entry)) ⌝ }
     ensures { λ _. ⌜ graphFits (now (graph .exit)) ≡ true ⌝ }
 {
     loop {

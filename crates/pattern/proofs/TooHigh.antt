@@ -10,8 +10,7 @@ use lib.Dec.{eqb, ltb}
 use lib.ListN.{length, getD}
 use borrow.Author.Tests.{eqb-true, ltb-true, ltb-false, le-ltb}
 use Rattle.lists.specs.Lists.{those}
-use Rattle.lists.proofs.Bools.{Is, is, yes-is, no-is, or-left, or-right, or-false, lt-or-le}
-use Rattle.lists.proofs.Disjunctions.{or-neither, neither-or}
+use Rattle.lists.proofs.Bools.{Is, is, yes-is, no-is, or-left, or-right, or-false, lt-or-le, or-neither, neither-or}
 use Rattle.lists.proofs.Intervals.{some-from, none-from, counted-from}
 use Rattle.trees.specs.Tree.{Tree, Chain, empty, done, part, firstOf, count, recordOf, numbers, shapes, treeOf, chainAt, treeAt, root, named, treeFits}
 use Rattle.pattern.specs.Priority.{priority, limit, valueAt, tooHigh}

@@ -9,8 +9,7 @@ use lib.Dec.{eqb, ltb}
 use lib.ListN.{length, getD, length-append}
 use Rattle.lists.specs.Lists.{below, anyL, allL, those}
 use Rattle.lists.proofs.Elements.{length-tab, getD-tab0, all-at, all-intro, eqb-sound}
-use Rattle.lists.proofs.Distinct.{those-keep}
-use Rattle.lists.proofs.Those.{those-more, those-same}
+use Rattle.lists.proofs.Those.{those-keep, those-more, those-same}
 use Rattle.graph_rules.specs.Graph.{State, Graph, stateOf, graphFrom}
 use Rattle.graph_rules.proofs.Flat.{from-length}
 use Rattle.edges.specs.Edges.{leadsTo, targets}
@@ -80,7 +79,7 @@ module _ {p : ℕ → Bool} {count low high u : ℕ} (f : Forking p count low hi
 pub target-below : (n : ℕ) (st : State) (i : ℕ) → i < length (targets n st) → getD (targets n st) i 0 < n
 unfolding targets
 target-below n st i h =
-    ltb-true _ n (all-at (λ x. ltb x n) (targets n st) i 0 (those-keep _ eqb-sound (leadsTo st) (λ x. ltb x n) (below n) small) h)
+    ltb-true _ n (all-at (λ x. ltb x n) (targets n st) i 0 (those-keep (leadsTo st) (λ x. ltb x n) (below n) small) h)
   where
     small : allL (λ x. ltb x n) (below n) ≡ true
     small =

@@ -20,6 +20,7 @@ use Rattle.graph_rules.proofs.Flat.{from-accept, from-early}
 use Rattle.graph_rules.proofs.Taken.{taken-long}
 use Rattle.prune.specs.Matrix.{bitAt}
 use Rattle.prune.proofs.BitRows.{byte-none}
+use Rattle.graph_rules.specs.Layout.{noState, mostStates, marksPlace, graphPlace, noLeaf, acceptIn, earlyIn}
 
 -- ---- marks, from their word
 
@@ -32,26 +33,26 @@ present-or k x = go (is (eqb x k))
 
 module _ (w : List ℕ) (taken : graphFits w ≡ true) (s : ℕ) (h : s < getD w 0 0) where
   abbrev word : ℕ
-  word = getD w (2 + 258 * s + 257) 0
+  word = getD w (graphPlace s marksPlace) 0
 
-  marked-is : marked (stateOf (graphFrom w) s) ≡ (not (eqb (word % 256) 255) || not (eqb (word / 256) 255))
+  marked-is : marked (stateOf (graphFrom w) s) ≡ (not (eqb (acceptIn word) noLeaf) || not (eqb (earlyIn word) noLeaf))
   unfolding acceptOf earlyOf
   marked-is =
-      let a = ap present (from-accept w (taken-long w taken) s h) ∙ present-or 255 (word % 256) in
-      let b = ap present (from-early w (taken-long w taken) s h) ∙ present-or 255 (word / 256) in
+      let a = ap present (from-accept w (taken-long w taken) s h) ∙ present-or noLeaf (acceptIn word) in
+      let b = ap present (from-early w (taken-long w taken) s h) ∙ present-or noLeaf (earlyIn word) in
       λ i. a i || b i
 
-  pub unmarked : getD w (2 + 258 * s + 257) 0 ≡ 65535 → marked (stateOf (graphFrom w) s) ≡ false
-  unmarked e = marked-is ∙ ap (λ (x : ℕ). not (eqb (x % 256) 255) || not (eqb (x / 256) 255)) e
+  pub unmarked : getD w (graphPlace s marksPlace) 0 ≡ noState → marked (stateOf (graphFrom w) s) ≡ false
+  unmarked e = marked-is ∙ ap (λ (x : ℕ). not (eqb (acceptIn x) noLeaf) || not (eqb (earlyIn x) noLeaf)) e
 
-  pub is-marked : getD w (2 + 258 * s + 257) 0 < 65536 → (getD w (2 + 258 * s + 257) 0 ≡ 65535 → ⊥) → marked (stateOf (graphFrom w) s) ≡ true
-  is-marked small n = marked-is ∙ go (is (eqb (word % 256) 255))
+  pub is-marked : getD w (graphPlace s marksPlace) 0 < 65536 → (getD w (graphPlace s marksPlace) 0 ≡ noState → ⊥) → marked (stateOf (graphFrom w) s) ≡ true
+  is-marked small n = marked-is ∙ go (is (eqb (acceptIn word) noLeaf))
     where
-      go : Is (eqb (word % 256) 255) → (not (eqb (word % 256) 255) || not (eqb (word / 256) 255)) ≡ true
+      go : Is (eqb (acceptIn word) noLeaf) → (not (eqb (acceptIn word) noLeaf) || not (eqb (earlyIn word) noLeaf)) ≡ true
       go (no-is q) = or-left _ _ (ap not q)
       go (yes-is q) =
-          let low = eqb-true (word % 256) 255 q in
-          or-right (not (eqb (word % 256) 255)) _ (ap not (ne-eqb (word / 256) 255 (λ e. n (omega arith))))
+          let low = eqb-true (acceptIn word) noLeaf q in
+          or-right (not (eqb (acceptIn word) noLeaf)) _ (ap not (ne-eqb (earlyIn word) noLeaf (λ e. n (omega arith))))
 
 -- ---- the worklist
 
@@ -72,17 +73,17 @@ module _ (g : Graph) where
 
   -- P: what is being looked at now
   abbrev pub Search : (ℕ → Type 0) → List Bool → List ℕ → ℕ → Type 0
-  Search P out stack top = Work found (length (g .states)) 1024 Good P out stack top
+  Search P out stack top = Work found (length (g .states)) mostStates Good P out stack top
 
-  pub search-none : Search (λ _. ⊥) (replicate 1024 false) (replicate 1024 0) 0
+  pub search-none : Search (λ _. ⊥) (replicate mostStates false) (replicate mostStates 0) 0
   search-none =
       record {
-        outLen = length-replicate {A = Bool} 1024 false;
-        stLen = let e = length-replicate {A = ℕ} 1024 0 in omega arith;
+        outLen = length-replicate {A = Bool} mostStates false;
+        stLen = let e = length-replicate {A = ℕ} mostStates 0 in omega arith;
         few = zero-le;
-        good = λ k i. absurd (false≢true (sym (none-in 1024 k) ∙ i));
+        good = λ k i. absurd (false≢true (sym (none-in mostStates k) ∙ i));
         held = λ i l. absurd (not-suc-le-zero l);
-        done = λ k i. absurd (false≢true (sym (none-in 1024 k) ∙ i));
+        done = λ k i. absurd (false≢true (sym (none-in mostStates k) ∙ i));
       }
 
   -- a state that is no parent adds nothing, and one that is there already neither
@@ -97,8 +98,8 @@ module _ (g : Graph) where
       go false = i
 
   -- eight states at once, whose byte of parents is zero
-  pub found-byte : (m : List ℕ) → ((t p : ℕ) → t < 1024 → p < 1024 → bitAt m t p ≡ leads (stateOf g p) t)
-      → (out : List Bool) (t p : ℕ) → t < 1024 → p < 1024 → getD m (128 * t + p / 8) 0 ≡ 0 → In out t → AllIn (found t) out p
+  pub found-byte : (m : List ℕ) → ((t p : ℕ) → t < mostStates → p < mostStates → bitAt m t p ≡ leads (stateOf g p) t)
+      → (out : List Bool) (t p : ℕ) → t < mostStates → p < mostStates → getD m (128 * t + p / 8) 0 ≡ 0 → In out t → AllIn (found t) out p
       → AllIn (found t) out (p + (8 - p % 8))
   found-byte m bits out t p ht hp e i all j h =
       ⊎-elim (λ l. all j l) (λ l.
@@ -108,14 +109,14 @@ module _ (g : Graph) where
       (lt-or-le j p)
 
   -- nothing is left to look at
-  pub search-done : (out : List Bool) (stack : List ℕ) (top : ℕ) → length (g .states) ≤ 1024 → top ≤ 0 → Search (λ _. ⊥) out stack top
-      → ((s : ℕ) → s < length (g .states) → seed s ≡ true → In out s) → out ≡ kept g ++ replicate (1024 - length (g .states)) false
+  pub search-done : (out : List Bool) (stack : List ℕ) (top : ℕ) → length (g .states) ≤ mostStates → top ≤ 0 → Search (λ _. ⊥) out stack top
+      → ((s : ℕ) → s < length (g .states) → seed s ≡ true → In out s) → out ≡ kept g ++ replicate (mostStates - length (g .states)) false
   unfolding kept
   search-done out stack top fits none-left v seeds =
       let n = length (g .states) in
       let e = closure-length edge n seed in
-      padded false out (kept g) 1024 (v .outLen) (omega arith)
+      padded false out (kept g) mostStates (v .outLen) (omega arith)
       (closure-is edge n seed out seeds
-      (λ k t i h l. subst (In out) (ap (λ (b : Bool). cond b t k) l) (closed found n 1024 Good out stack top none-left v k i t h))
+      (λ k t i h l. subst (In out) (ap (λ (b : Bool). cond b t k) l) (closed found n mostStates Good out stack top none-left v k i t h))
       (v .good))
-      ∙ ap (λ (x : ℕ). kept g ++ replicate (1024 - x) false) e
+      ∙ ap (λ (x : ℕ). kept g ++ replicate (mostStates - x) false) e

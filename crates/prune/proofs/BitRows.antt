@@ -18,6 +18,7 @@ use Rattle.graph_rules.specs.Graph.{Graph, stateOf, to, leads}
 use Rattle.graph_rules.proofs.Views.{edge-leads, edge-within, leads-edge}
 use Rattle.prune.specs.Matrix.{bitAt}
 use Rattle.words.proofs.Edges.{Pass, pass-none, pass-more, pass-skip, pass-row}
+use Rattle.graph_rules.specs.Layout.{mostStates}
 
 -- ---- one bit
 
@@ -33,7 +34,7 @@ byte-none m t p e = ap (isSet (p % 8)) e ∙ ap (λ (b : ℕ). eqb b 1) (bit-zer
 pub matrix-none : (k t p : ℕ) → bitAt (replicate k 0) t p ≡ false
 matrix-none k t p = byte-none (replicate k 0) t p (replicate-at 0 k (128 * t + p / 8))
 
-module _ (m : List ℕ) (len : length m ≡ 131072) (t p : ℕ) (ht : t < 1024) (hp : p < 1024) where
+module _ (m : List ℕ) (len : length m ≡ 131072) (t p : ℕ) (ht : t < mostStates) (hp : p < mostStates) where
   abbrev at : ℕ
   at = 128 * t + p / 8
 
@@ -41,7 +42,7 @@ module _ (m : List ℕ) (len : length m ≡ 131072) (t p : ℕ) (ht : t < 1024) 
   unfolding bitAt
   bit-own = ap (isSet (p % 8)) (getD-set-same m at _ 0 (omega arith)) ∙ set-own (p % 8) (getD m at 0) true
 
-  bit-other : (u q : ℕ) → q < 1024 → ((u ≡ t) × (q ≡ p) → ⊥) → bitAt (withParent m t p) u q ≡ bitAt m u q
+  bit-other : (u q : ℕ) → q < mostStates → ((u ≡ t) × (q ≡ p) → ⊥) → bitAt (withParent m t p) u q ≡ bitAt m u q
   unfolding bitAt
   bit-other u q hq n = go (is (eqb (128 * u + q / 8) at))
     where
@@ -66,7 +67,7 @@ module _ (g : Graph) where
   Led q d x = (x .1 ≡ q) × (to g q d ≡ some (x .0))
 
   abbrev pub Noted : List ℕ → Pair → Type 0
-  Noted m x = (x .0 < 1024) × (x .1 < 1024) × (bitAt m (x .0) (x .1) ≡ true)
+  Noted m x = (x .0 < mostStates) × (x .1 < mostStates) × (bitAt m (x .0) (x .1) ≡ true)
 
   pub record Matrix (p c : ℕ) (m : List ℕ) : Type 0 where
     pub len : length m ≡ 131072
@@ -83,7 +84,7 @@ module _ (g : Graph) where
     pub parents-skip : ((t : ℕ) → to g p c ≡ some t → ⊥) → Matrix p (c + 1) m
     parents-skip f = record { len = v .len; pass = pass-skip Led p c (Noted m) (v .pass) (λ x e. f (x .0) (e .1)) }
 
-    pub parents-set : (t : ℕ) → t < 1024 → p < 1024 → to g p c ≡ some t → Matrix p (c + 1) (withParent m t p)
+    pub parents-set : (t : ℕ) → t < mostStates → p < mostStates → to g p c ≡ some t → Matrix p (c + 1) (withParent m t p)
     parents-set t ht hp e =
         record { len = length-set m (128 * t + p / 8) _ ∙ v .len; pass = pass-more Led p c (Noted m) (v .pass) (Noted (withParent m t p)) only keeps hits }
       where
@@ -91,7 +92,7 @@ module _ (g : Graph) where
         own u q a b = subst₂ (λ (u q : ℕ). bitAt (withParent m t p) u q ≡ true) (sym a) (sym b) (bit-own m (v .len) t p ht hp)
 
         -- the pair is this one, or its bit stays
-        split : (u q : ℕ) → q < 1024 → ((u ≡ t) × (q ≡ p)) ⊎ (bitAt (withParent m t p) u q ≡ bitAt m u q)
+        split : (u q : ℕ) → q < mostStates → ((u ≡ t) × (q ≡ p)) ⊎ (bitAt (withParent m t p) u q ≡ bitAt m u q)
         split u q hq = go (is (eqb u t)) (is (eqb q p))
           where
             go : Is (eqb u t) → Is (eqb q p) → ((u ≡ t) × (q ≡ p)) ⊎ (bitAt (withParent m t p) u q ≡ bitAt m u q)
@@ -112,13 +113,13 @@ module _ (g : Graph) where
         hits : (x : Pair) → Led p c x → Noted (withParent m t p) x
         hits x l =
             let a : x .0 ≡ t = some-inj (sym (l .1) ∙ e) in
-            (subst (λ (u : ℕ). u < 1024) (sym a) ht, subst (λ (q : ℕ). q < 1024) (sym (l .0)) hp, own (x .0) (x .1) a (l .0))
+            (subst (λ (u : ℕ). u < mostStates) (sym a) ht, subst (λ (q : ℕ). q < mostStates) (sym (l .0)) hp, own (x .0) (x .1) a (l .0))
 
     pub parents-row : ((d u : ℕ) → to g p d ≡ some u → d < c) → Matrix (p + 1) 0 m
     parents-row wide = record { len = v .len; pass = pass-row Led p c (Noted m) (v .pass) (λ d x e. wide d (x .0) (e .1)) }
 
   -- all edges have been passed
-  pub parents-all : (m : List ℕ) → Matrix (length (g .states)) 0 m → (t p : ℕ) → t < 1024 → p < 1024 → bitAt m t p ≡ leads (stateOf g p) t
+  pub parents-all : (m : List ℕ) → Matrix (length (g .states)) 0 m → (t p : ℕ) → t < mostStates → p < mostStates → bitAt m t p ≡ leads (stateOf g p) t
   parents-all m v t p ht hp =
       bool-ext (bitAt m t p) (leads (stateOf g p) t)
       (λ b. let (q, d, x) = v .pass .sound (t, p) (ht, hp, b) in edge-leads g p d t (ap (λ (y : ℕ). to g y d) (x .0) ∙ x .1))

@@ -12,14 +12,15 @@ ghost use mathlib.Core.List.{_++_};
 ghost use Prim.Native.Nat.{ℕ, _+_, _*_, _-_, _<_};
 ghost use lib.Dec.{eqb};
 ghost use lib.ListN.{getD, drop, replicate};
-ghost use Rattle.graph_rules.specs.Graph.{graphFits, graphFrom, graphBuffer, stateOf, leads};
+ghost use Rattle.graph_rules.specs.Graph.{graphFits, graphFrom, rewritten, stateOf, leads};
 ghost use Rattle.graph_rules.specs.Build.{kept, marked, pruned};
 ghost use Rattle.prune.specs.Matrix.{bitAt};
+ghost use Rattle.graph_rules.specs.Layout.{mostStates};
 
 // The parents of every state, by byte and end edges: bit p of row t is set if state p leads to state t.
 pub fn parents(graph: &[u16]) -> [u8; 131072]
     requires { ⌜ graphFits (now graph) ≡ true ⌝ }
-    ensures { λ r. ⌜ ((t p : ℕ) → t < 1024 → p < 1024 → bitAt r t p ≡ leads (stateOf (graphFrom (now (graph .entry))) p) t) ⌝ }
+    ensures { λ r. ⌜ ((t p : ℕ) → t < mostStates → p < mostStates → bitAt r t p ≡ leads (stateOf (graphFrom (now (graph .entry))) p) t) ⌝ }
 {
     let n = word(graph, 0);
     let mut out = [0u8; 131072];
@@ -54,7 +55,7 @@ pub fn is_seed(graph: &[u16], s: usize) -> bool
 // The states with a mark, the root, and all that can reach one of these: those reached are put on a stack once each, and their parents looked at.
 pub fn kept(graph: &[u16]) -> [bool; 1024]
     requires { ⌜ graphFits (now graph) ≡ true ⌝ }
-    ensures { λ r. ⌜ r ≡ kept (graphFrom (now (graph .entry))) ++ replicate (1024 - getD (now (graph .entry)) 0 0) false ⌝ }
+    ensures { λ r. ⌜ r ≡ kept (graphFrom (now (graph .entry))) ++ replicate (mostStates - getD (now (graph .entry)) 0 0) false ⌝ }
 {
     let n = word(graph, 0);
     let from = parents(graph);
@@ -96,7 +97,7 @@ pub fn kept(graph: &[u16]) -> [bool; 1024]
 // Drops the states that are not kept; the others keep their order.
 pub fn prune(graph: &mut [u16])
     requires { ⌜ graphFits (now graph) ≡ true ⌝ }
-    ensures { λ _. ⌜ now (graph .exit) ≡ graphBuffer (getD (now (graph .entry)) 0 0) (pruned (graphFrom (now (graph .entry)))) ++ drop (2 + 258 * getD (now (graph .entry)) 0 0) (now (graph .entry)) ⌝ }
+    ensures { λ _. ⌜ now (graph .exit) ≡ rewritten pruned (now (graph .entry)) ⌝ }
     ensures { λ _. ⌜ graphFits (now (graph .exit)) ≡ true ⌝ }
 {
     let keep = kept(graph);

@@ -9,12 +9,13 @@ ghost use Rattle.graph_rules.specs.Build.{reached};
 ghost use Rattle.graph_rules.specs.Table.{refusal, tableOf};
 use words::table::leaves;
 use words::table::row_word;
+ghost use Rattle.graph_rules.specs.Layout.{mostStates};
 
 // The set of the states that byte and end steps reach from `start`; through state 0 too, if it is reached.
 pub fn reached(table: &[u16], start: usize) -> [bool; 1024]
     requires { ⌜ refusal (now table) ≡ 0 ⌝ }
     requires { ⌜ start < getD (now table) 0 0 ⌝ }
-    ensures { λ r. ⌜ r ≡ reached (tableOf (now (table .entry))) start ++ replicate (1024 - getD (now (table .entry)) 0 0) false ⌝ }
+    ensures { λ r. ⌜ r ≡ reached (tableOf (now (table .entry))) start ++ replicate (mostStates - getD (now (table .entry)) 0 0) false ⌝ }
 {
     let m = leaves(table);
     let mut out = [false; 1024];

@@ -10,10 +10,11 @@ use Rattle.graph_rules.specs.Graph.{graphFits, graphFrom}
 use Rattle.graph_rules.specs.Read.{Reading, readGraph, readTable}
 use Rattle.readings.specs.declared.read.Read.{Read}
 use Rattle.readings.specs.declared.read.Read.the-variants.{Found, Nothing, Refused}
+use Rattle.graph_rules.specs.Layout.{noLeaf}
 
 -- a reading, by its leaf, 255 if there is none, and its end
 abbrev pub recorded : ℕ → ℕ → Reading
-recorded leaf end = cond (eqb leaf 255) none (some (record { leaf = leaf; end = end }))
+recorded leaf end = cond (eqb leaf noLeaf) none (some (record { leaf = leaf; end = end }))
 
 -- ---- the readings
 

@@ -6,6 +6,7 @@ ghost use lib.ListN.{length, getD};
 ghost use Rattle.graph_rules.specs.Graph.{graphFits, graphFrom, orNone};
 ghost use Rattle.graph_rules.specs.Read.{readGraph, mark, late};
 ghost use Rattle.readings.specs.Answers.{recorded, reading, graphRead};
+ghost use Rattle.graph_rules.specs.Layout.{noLeaf, acceptIn, earlyIn};
 
 // A leaf and where its match ends, or none; or the number of a refusal.
 pub enum Read {
@@ -22,7 +23,7 @@ pub struct Record {
 
 // The record at a state of that accept, entered by k byte steps: the match is one byte late.
 pub fn accepted(accept: usize, k: usize, r: Record) -> Record
-    ensures { λ q. ⌜ recorded (q .leaf) (q .end) ≡ late (orNone 255 accept) k (recorded (r .leaf) (r .end)) ⌝ }
+    ensures { λ q. ⌜ recorded (q .leaf) (q .end) ≡ late (orNone noLeaf accept) k (recorded (r .leaf) (r .end)) ⌝ }
 {
     if accept == 255 {
         return r;
@@ -38,7 +39,7 @@ pub fn accepted(accept: usize, k: usize, r: Record) -> Record
 
 // The record at a state with these marks, entered by k byte steps.
 pub fn mark_at(marks: usize, k: usize, r: Record) -> Record
-    ensures { λ q. ⌜ recorded (q .leaf) (q .end) ≡ mark (orNone 255 (marks / 256)) (orNone 255 (marks % 256)) k (recorded (r .leaf) (r .end)) ⌝ }
+    ensures { λ q. ⌜ recorded (q .leaf) (q .end) ≡ mark (orNone noLeaf (earlyIn marks)) (orNone noLeaf (acceptIn marks)) k (recorded (r .leaf) (r .end)) ⌝ }
 {
     let early = marks / 256;
     if early == 255 {
@@ -52,7 +53,7 @@ pub fn mark_at(marks: usize, k: usize, r: Record) -> Record
 
 // The record at a state of that accept, entered by the end step after k byte steps: only accept is read there.
 pub fn accept_at_end(accept: usize, k: usize, r: Record) -> Record
-    ensures { λ q. ⌜ recorded (q .leaf) (q .end) ≡ late (orNone 255 accept) (suc k) (recorded (r .leaf) (r .end)) ⌝ }
+    ensures { λ q. ⌜ recorded (q .leaf) (q .end) ≡ late (orNone noLeaf accept) (suc k) (recorded (r .leaf) (r .end)) ⌝ }
 {
     if accept == 255 {
         return r;

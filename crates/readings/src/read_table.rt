@@ -7,12 +7,13 @@ ghost use Rattle.graph_rules.specs.Read.{readTable};
 ghost use Rattle.readings.specs.Answers.{recorded, tableRead};
 use crate::read::Read;
 use crate::read::Record;
+ghost use Rattle.graph_rules.specs.Layout.{stepCount};
 
 // The target of state s for byte c, or for the end step, c = 256.
 fn step(table: &[u16], s: usize, c: usize) -> usize
     requires { ⌜ refusal (now table) ≡ 0 ⌝ }
     requires { ⌜ s < getD (now table) 0 0 ⌝ }
-    requires { ⌜ c < 257 ⌝ }
+    requires { ⌜ c < stepCount ⌝ }
     ensures { λ r. ⌜ (r ≡ step (tableOf (now (table .entry))) s c) × (r < getD (now (table .entry)) 0 0) ⌝ }
 {
     words::table::row_word(table, words::table::leaves(table), s, c)

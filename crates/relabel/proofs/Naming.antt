@@ -23,37 +23,38 @@ use Rattle.graph_rules.proofs.Merge.{names, placed}
 use Rattle.graph_rules.proofs.Nones.{or-none, or-number}
 use Rattle.graph_rules.proofs.Prune.{kept-length, kept-root, restrict-placed}
 use Rattle.relabel.specs.Names.{namesOf, Fitting}
+use Rattle.graph_rules.specs.Layout.{noState, mostStates}
 
 -- ---- numbering: the numbers below s have been passed, k of them are members
 
 pub record Numbered (keep : List Bool) (s k : ℕ) (out : List ℕ) : Type 0 where
-  pub len : length out ≡ 1024
+  pub len : length out ≡ mostStates
   pub size : k ≡ count (take s keep)
-  pub done : (i : ℕ) → i < s → orNone 65535 (getD out i 65535) ≡ getD (numberFrom 0 keep) i none
-  pub left : (i : ℕ) → s ≤ i → getD out i 65535 ≡ 65535
+  pub done : (i : ℕ) → i < s → orNone noState (getD out i noState) ≡ getD (numberFrom 0 keep) i none
+  pub left : (i : ℕ) → s ≤ i → getD out i noState ≡ noState
 
 module _ (keep : List Bool) where
-  pub numbered-none : Numbered keep 0 0 (replicate 1024 65535)
+  pub numbered-none : Numbered keep 0 0 (replicate mostStates noState)
   numbered-none =
-      record { len = length-replicate {A = ℕ} 1024 65535; size = refl; done = λ i h. absurd (not-suc-le-zero h); left = λ i h. replicate-at 65535 1024 i }
+      record { len = length-replicate {A = ℕ} mostStates noState; size = refl; done = λ i h. absurd (not-suc-le-zero h); left = λ i h. replicate-at noState mostStates i }
 
   module _ (s k : ℕ) (out : List ℕ) (v : Numbered keep s k out) where
     pub numbered-low : k ≤ s
     numbered-low = let e = v .size in omega (arith, count-few keep s)
 
-    pub numbered-in : s < 1024 → In keep s → Numbered keep (s + 1) (k + 1) (set out s k)
+    pub numbered-in : s < mostStates → In keep s → Numbered keep (s + 1) (k + 1) (set out s k)
     numbered-in h i =
         let e = v .len in
         let low = numbered-low in
-        let number : orNone 65535 k ≡ some k = or-number 65535 k (λ q. omega arith) in
+        let number : orNone noState k ≡ some k = or-number noState k (λ q. omega arith) in
         record {
           len = length-set out s k ∙ v .len;
           size = ap (λ (x : ℕ). x + 1) (v .size) ∙ sym (count-take-in keep s i);
           done = below-more _ s
-              (λ j l. ap (orNone 65535) (getD-set-other out s j k 65535 (λ q. let z : j ≡ s = q in omega arith)) ∙ v .done j l)
-              (ap (orNone 65535) (getD-set-same out s k 65535 (omega arith)) ∙ number
+              (λ j l. ap (orNone noState) (getD-set-other out s j k noState (λ q. let z : j ≡ s = q in omega arith)) ∙ v .done j l)
+              (ap (orNone noState) (getD-set-same out s k noState (omega arith)) ∙ number
               ∙ ap {B = Option ℕ} some (v .size ∙ let z : count (take s keep) ≡ 0 + count (take s keep) = omega arith in z) ∙ sym (number-count 0 keep s i));
-          left = λ j l. getD-set-other out s j k 65535 (λ q. let z : j ≡ s = q in omega arith) ∙ v .left j (omega arith);
+          left = λ j l. getD-set-other out s j k noState (λ q. let z : j ≡ s = q in omega arith) ∙ v .left j (omega arith);
         }
 
     pub numbered-out : getD keep s false ≡ false → Numbered keep (s + 1) k out
@@ -61,16 +62,16 @@ module _ (keep : List Bool) where
         record {
           len = v .len;
           size = v .size ∙ sym (count-take-out keep s e);
-          done = below-more _ s (v .done) (or-none 65535 _ (v .left s (omega arith)) ∙ sym (number-none 0 keep s e));
+          done = below-more _ s (v .done) (or-none noState _ (v .left s (omega arith)) ∙ sym (number-none 0 keep s e));
           left = λ j l. v .left j (omega arith);
         }
 
-  pub numbered-all : (k : ℕ) (out : List ℕ) → length keep ≡ 1024 → Numbered keep 1024 k out → namesOf out ≡ numberFrom 0 keep
+  pub numbered-all : (k : ℕ) (out : List ℕ) → length keep ≡ mostStates → Numbered keep mostStates k out → namesOf out ≡ numberFrom 0 keep
   numbered-all k out size v =
-      let a : length (namesOf out) ≡ length out = length-map out (orNone 65535) in
+      let a : length (namesOf out) ≡ length out = length-map out (orNone noState) in
       let b = v .len in
       let c = number-length 0 keep in
-      ext-getD none (namesOf out) (numberFrom 0 keep) (omega arith) (λ i h. List·getD-map (orNone 65535) out i 65535 ∙ v .done i (omega arith))
+      ext-getD none (namesOf out) (numberFrom 0 keep) (omega arith) (λ i h. List·getD-map (orNone noState) out i noState ∙ v .done i (omega arith))
 
 -- ---- names that read alike
 

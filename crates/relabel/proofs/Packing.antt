@@ -10,7 +10,7 @@ use native.Mathlib.Nat.{not-suc-le-zero, eq-or-lt-of-le}
 use native.Mathlib.Omega.{arith}
 use lib.ListN.{length, getD, set, drop, length-map, length-append, length-set, List·getD-append}
 use lib.Seq.{getD-append-seam, getD-set-same, getD-set-other}
-use Rattle.words.specs.Places.{graphPlace}
+use Rattle.graph_rules.specs.Layout.{stepCount, noState, rowWords, marksPlace, graphPlace, graphSize, noLeaf, marksWord}
 use Rattle.graph_rules.specs.Graph.{State, Graph, blank, stateOf, to, acceptOf, earlyOf, orNone, graphFrom, graphFits, graphBuffer}
 use Rattle.graph_rules.specs.Build.{renamed, relabel}
 use Rattle.graph_rules.proofs.Fits.{Fits}
@@ -24,13 +24,13 @@ use Rattle.relabel.proofs.Rows.{renamed-is}
 
 -- row i is that of a state, renamed
 pub record Row (names : List ℕ) (st : State) (i : ℕ) (w : List ℕ) : Type 0 where
-  pub targets : (c : ℕ) → c < 257 → getD w (graphPlace i c) 0 ≡ Option·getD (led (namesOf names) (getD (st .steps) c none)) 65535
-  pub marks : getD w (graphPlace i 257) 0 ≡ Option·getD (st .accept) 255 + 256 * Option·getD (st .early) 255
+  pub targets : (c : ℕ) → c < stepCount → getD w (graphPlace i c) 0 ≡ Option·getD (led (namesOf names) (getD (st .steps) c none)) noState
+  pub marks : getD w (graphPlace i marksPlace) 0 ≡ marksWord (Option·getD (st .accept) noLeaf) (Option·getD (st .early) noLeaf)
 
 module _ (names : List ℕ) (st : State) (i : ℕ) (v w : List ℕ) where
   -- it stays where its words do
-  row-stays : ((c : ℕ) → c < 258 → getD w (graphPlace i c) 0 ≡ getD v (graphPlace i c) 0) → Row names st i v → Row names st i w
-  row-stays same r = record { targets = λ c h. same c (omega arith) ∙ r .targets c h; marks = same 257 (omega arith) ∙ r .marks }
+  row-stays : ((c : ℕ) → c < rowWords → getD w (graphPlace i c) 0 ≡ getD v (graphPlace i c) 0) → Row names st i v → Row names st i w
+  row-stays same r = record { targets = λ c h. same c (omega arith) ∙ r .targets c h; marks = same marksPlace (omega arith) ∙ r .marks }
 
 -- w₀: the words at the beginning; rest: the states that stay, of those before s
 pub record Packed (names : List ℕ) (rest : List State) (s : ℕ) (w₀ w : List ℕ) : Type 0 where
@@ -64,11 +64,11 @@ module _ (names : List ℕ) (w₀ : List ℕ) where
         record {
           targets = λ c b.
               m .targets c b ∙ renamed-is names (getD v (graphPlace s c) 0)
-              ∙ ap (λ (o : Option ℕ). Option·getD (led (namesOf names) o) 65535) (ap (orNone 65535) (before c) ∙ sym (from-to w₀ (taken-long w₀ taken) s h c b));
+              ∙ ap (λ (o : Option ℕ). Option·getD (led (namesOf names) o) noState) (ap (orNone noState) (before c) ∙ sym (from-to w₀ (taken-long w₀ taken) s h c b));
           marks =
               let a = accept-is w₀ taken s h in
               let b = early-is w₀ taken s h in
-              m .marks ∙ before 257 ∙ omega arith;
+              m .marks ∙ before marksPlace ∙ omega arith;
         }
 
     old-row : (i : ℕ) → i < k → Row names (getD all i blank) i w
@@ -97,7 +97,7 @@ module _ (names : List ℕ) (w₀ : List ℕ) where
 -- ---- all rows have been passed, the vacated ones are zero, and count and root are written
 
 module _ (names : List ℕ) (w₀ : List ℕ) (taken : graphFits w₀ ≡ true) (rest : List State) (root : ℕ)
-    (fits : Fits 255 (getD w₀ 0 0) (relabel (namesOf names) rest root)) (few : length rest ≤ getD w₀ 0 0)
+    (fits : Fits noLeaf (getD w₀ 0 0) (relabel (namesOf names) rest root)) (few : length rest ≤ getD w₀ 0 0)
     (v w : List ℕ) (p : Packed names rest (getD w₀ 0 0) w₀ v) (z : Zeroed (graphPlace (length rest) 0) (graphPlace (getD w₀ 0 0) 0) v w) where
   abbrev n : ℕ
   n = getD w₀ 0 0
@@ -108,7 +108,7 @@ module _ (names : List ℕ) (w₀ : List ℕ) (taken : graphFits w₀ ≡ true) 
   abbrev final : List ℕ
   final = set (set w 0 (length rest)) 1 (new .root)
 
-  long : 2 + 258 * n ≤ length w
+  long : graphSize n ≤ length w
   long = let a = p .len in let b = z .len in omega (arith, taken-long w₀ taken)
 
   final-length : length final ≡ length w
@@ -128,22 +128,22 @@ module _ (names : List ℕ) (w₀ : List ℕ) (taken : graphFits w₀ ≡ true) 
   unfolding relabel
   size = length-map rest (renamed (namesOf names))
 
-  after : drop (2 + 258 * n) final ≡ drop (2 + 258 * n) w₀
+  after : drop (graphSize n) final ≡ drop (graphSize n) w₀
   after =
-      same-after (2 + 258 * n) w₀ final (final-length ∙ z .len ∙ p .len)
+      same-after (graphSize n) w₀ final (final-length ∙ z .len ∙ p .len)
       (λ i h. past i (omega arith) ∙ z .others i (inr (omega arith)) ∙ p .others i (inr (omega arith)))
 
   pub packed-all : set (set w 0 (length rest)) 1 (relabel (namesOf names) rest root .root)
-      ≡ graphBuffer (getD w₀ 0 0) (relabel (namesOf names) rest root) ++ drop (2 + 258 * getD w₀ 0 0) w₀
+      ≡ graphBuffer (getD w₀ 0 0) (relabel (namesOf names) rest root) ++ drop (graphSize (getD w₀ 0 0)) w₀
   packed-all =
       let l = long in
       let e = size in
       let fl = final-length in
       rw (← after)
-      (written 255 n (omega arith) (taken-few w₀ taken) new fits final (omega arith)
+      (written noLeaf n (omega arith) (taken-few w₀ taken) new fits final (omega arith)
       (getD-set-other (set w 0 (length rest)) 1 0 (new .root) 0 (λ q. let y : 0 ≡ 1 = q in omega arith) ∙ getD-set-same w 0 (length rest) 0 (omega arith) ∙ sym e)
       (getD-set-same (set w 0 (length rest)) 1 (new .root) 0 (let y = length-set w 0 (length rest) in omega arith))
-      (λ i c h b. kept-row i (omega arith) .targets c b ∙ ap (λ (o : Option ℕ). Option·getD o 65535) (sym (relabel-to (namesOf names) rest root i c)))
+      (λ i c h b. kept-row i (omega arith) .targets c b ∙ ap (λ (o : Option ℕ). Option·getD o noState) (sym (relabel-to (namesOf names) rest root i c)))
       (λ i h.
       let a = relabel-accept (namesOf names) rest root i in
       let b = relabel-early (namesOf names) rest root i in

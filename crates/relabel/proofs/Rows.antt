@@ -12,7 +12,7 @@ use lib.ListN.{length, getD, set, length-set, List·getD-map}
 use lib.Seq.{getD-set-same, getD-set-other}
 use Rattle.lists.proofs.Bools.{Is, is, yes-is, no-is}
 use Rattle.lists.proofs.Padding.{default-any}
-use Rattle.words.specs.Places.{graphPlace}
+use Rattle.graph_rules.specs.Layout.{stepCount, noState, rowWords, marksPlace, graphPlace}
 use Rattle.graph_rules.specs.Graph.{orNone}
 use Rattle.graph_rules.proofs.Rename.{led}
 use Rattle.graph_rules.proofs.Nones.{or-word}
@@ -20,16 +20,16 @@ use Rattle.relabel.specs.Names.{namesOf, renamedWord, Moved, Zeroed}
 
 -- ---- names, from their words
 
-pub name-is : (names : List ℕ) (u : ℕ) → u < length names → getD (namesOf names) u none ≡ orNone 65535 (getD names u 0)
-name-is names u h = List·getD-map (orNone 65535) names u 65535 ∙ ap (orNone 65535) (default-any 65535 0 names u h)
+pub name-is : (names : List ℕ) (u : ℕ) → u < length names → getD (namesOf names) u none ≡ orNone noState (getD names u 0)
+name-is names u h = List·getD-map (orNone noState) names u noState ∙ ap (orNone noState) (default-any noState 0 names u h)
 
 -- a target word is renamed as its edge is
-pub renamed-is : (names : List ℕ) (u : ℕ) → renamedWord names u ≡ Option·getD (led (namesOf names) (orNone 65535 u)) 65535
-renamed-is names u = go (is (eqb u 65535))
+pub renamed-is : (names : List ℕ) (u : ℕ) → renamedWord names u ≡ Option·getD (led (namesOf names) (orNone noState u)) noState
+renamed-is names u = go (is (eqb u noState))
   where
-    go : Is (eqb u 65535) → renamedWord names u ≡ Option·getD (led (namesOf names) (orNone 65535 u)) 65535
+    go : Is (eqb u noState) → renamedWord names u ≡ Option·getD (led (namesOf names) (orNone noState u)) noState
     go (yes-is q) = rw q
-    go (no-is q) = rw q (sym (or-word 65535 (getD names u 65535)) ∙ ap (λ (o : Option ℕ). Option·getD o 65535) (sym (List·getD-map (orNone 65535) names u 65535)))
+    go (no-is q) = rw q (sym (or-word noState (getD names u noState)) ∙ ap (λ (o : Option ℕ). Option·getD o noState) (sym (List·getD-map (orNone noState) names u noState)))
 
 -- ---- a word that is set lies within, all before and after it stay
 
@@ -61,7 +61,7 @@ pub record Moving (names : List ℕ) (s k c : ℕ) (v w : List ℕ) : Type 0 whe
   pub targets : (d : ℕ) → d < c → getD w (graphPlace k d) 0 ≡ renamedWord names (getD v (graphPlace s d) 0)
   pub others : (i : ℕ) → (i < graphPlace k 0) ⊎ (graphPlace k c ≤ i) → getD w i 0 ≡ getD v i 0
 
-module _ (names : List ℕ) (s k : ℕ) (v : List ℕ) (down : k ≤ s) (fits : graphPlace s 257 < length v) where
+module _ (names : List ℕ) (s k : ℕ) (v : List ℕ) (down : k ≤ s) (fits : graphPlace s marksPlace < length v) where
   pub moving-none : Moving names s k 0 v v
   moving-none = record { len = refl; targets = λ d h. absurd (not-suc-le-zero h); others = λ i h. refl }
 
@@ -69,12 +69,12 @@ module _ (names : List ℕ) (s k : ℕ) (v : List ℕ) (down : k ≤ s) (fits : 
   pub moving-next : (c : ℕ) (w : List ℕ) → Moving names s k c v w → getD w (graphPlace s c) 0 ≡ getD v (graphPlace s c) 0
   moving-next c w m = m .others (graphPlace s c) (inr (omega arith))
 
-  put : (c x : ℕ) (w : List ℕ) → c < 258 → Moving names s k c v w → (i : ℕ) → (i < graphPlace k 0) ⊎ (graphPlace k (c + 1) ≤ i)
+  put : (c x : ℕ) (w : List ℕ) → c < rowWords → Moving names s k c v w → (i : ℕ) → (i < graphPlace k 0) ⊎ (graphPlace k (c + 1) ≤ i)
       → getD (set w (graphPlace k c) x) i 0 ≡ getD v i 0
   put c x w h m i (inl l) = set-away w (graphPlace k c) x i (inl (omega arith)) ∙ m .others i (inl l)
   put c x w h m i (inr l) = set-away w (graphPlace k c) x i (inr (omega arith)) ∙ m .others i (inr (omega arith))
 
-  pub moving-more : (c : ℕ) (w : List ℕ) → c < 257 → Moving names s k c v w
+  pub moving-more : (c : ℕ) (w : List ℕ) → c < stepCount → Moving names s k c v w
       → Moving names s k (c + 1) v (set w (graphPlace k c) (renamedWord names (getD v (graphPlace s c) 0)))
   moving-more c w h m =
       let x = renamedWord names (getD v (graphPlace s c) 0) in
@@ -87,13 +87,13 @@ module _ (names : List ℕ) (s k : ℕ) (v : List ℕ) (down : k ≤ s) (fits : 
         others = put c x w (omega arith) m;
       }
 
-  pub moving-done : (w : List ℕ) → Moving names s k 257 v w → Moved names s k v (set w (graphPlace k 257) (getD w (graphPlace s 257) 0))
+  pub moving-done : (w : List ℕ) → Moving names s k marksPlace v w → Moved names s k v (set w (graphPlace k marksPlace) (getD w (graphPlace s marksPlace) 0))
   moving-done w m =
-      let x = getD w (graphPlace s 257) 0 in
+      let x = getD w (graphPlace s marksPlace) 0 in
       let e = m .len in
       record {
-        len = length-set w (graphPlace k 257) x ∙ m .len;
-        targets = λ c h. set-away w (graphPlace k 257) x (graphPlace k c) (inl (omega arith)) ∙ m .targets c h;
-        marks = getD-set-same w (graphPlace k 257) x 0 (omega arith) ∙ moving-next 257 w m;
-        others = put 257 x w (omega arith) m;
+        len = length-set w (graphPlace k marksPlace) x ∙ m .len;
+        targets = λ c h. set-away w (graphPlace k marksPlace) x (graphPlace k c) (inl (omega arith)) ∙ m .targets c h;
+        marks = getD-set-same w (graphPlace k marksPlace) x 0 (omega arith) ∙ moving-next marksPlace w m;
+        others = put marksPlace x w (omega arith) m;
       }

@@ -7,16 +7,16 @@ use mathlib.Core.Logic.{_⊎_}
 use Prim.Native.Nat.{ℕ, _≤_, _<_}
 use lib.Dec.{eqb}
 use lib.ListN.{length, getD}
-use Rattle.words.specs.Places.{graphPlace}
+use Rattle.graph_rules.specs.Layout.{stepCount, noState, rowWords, marksPlace, graphPlace}
 use Rattle.graph_rules.specs.Graph.{State, orNone}
 
 -- 65,535 for none
 abbrev pub namesOf : List ℕ → List (Option ℕ)
-namesOf = map (orNone 65535)
+namesOf = map (orNone noState)
 
 -- a target word, renamed
 abbrev pub renamedWord : List ℕ → ℕ → ℕ
-renamedWord names u = cond (eqb u 65535) 65535 (getD names u 65535)
+renamedWord names u = cond (eqb u noState) noState (getD names u noState)
 
 -- every name is that of a state that stays, and so is the root's, if a state stays
 pub record Fitting (names : List (Option ℕ)) (rest : List State) (root : ℕ) : Type 0 where
@@ -26,9 +26,9 @@ pub record Fitting (names : List (Option ℕ)) (rest : List State) (root : ℕ) 
 -- row s of v has become row k of w, renamed, and no other word has changed
 pub record Moved (names : List ℕ) (s k : ℕ) (v w : List ℕ) : Type 0 where
   pub len : length w ≡ length v
-  pub targets : (c : ℕ) → c < 257 → getD w (graphPlace k c) 0 ≡ renamedWord names (getD v (graphPlace s c) 0)
-  pub marks : getD w (graphPlace k 257) 0 ≡ getD v (graphPlace s 257) 0
-  pub others : (i : ℕ) → (i < graphPlace k 0) ⊎ (graphPlace k 258 ≤ i) → getD w i 0 ≡ getD v i 0
+  pub targets : (c : ℕ) → c < stepCount → getD w (graphPlace k c) 0 ≡ renamedWord names (getD v (graphPlace s c) 0)
+  pub marks : getD w (graphPlace k marksPlace) 0 ≡ getD v (graphPlace s marksPlace) 0
+  pub others : (i : ℕ) → (i < graphPlace k 0) ⊎ (graphPlace k rowWords ≤ i) → getD w i 0 ≡ getD v i 0
 
 -- the words from a to b are zero, and no other word has changed
 pub record Zeroed (a b : ℕ) (v w : List ℕ) : Type 0 where

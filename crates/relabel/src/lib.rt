@@ -9,15 +9,15 @@ ghost use mathlib.Core.Logic.{_⊎_};
 ghost use Prim.Native.Nat.{ℕ, _+_, _*_, _<_, _≤_};
 ghost use lib.ListN.{length, getD, drop};
 ghost use Rattle.lists.specs.Lists.{select, numberFrom};
-ghost use Rattle.words.specs.Places.{graphPlace};
-ghost use Rattle.graph_rules.specs.Graph.{graphFits, graphFrom, graphBuffer};
+ghost use Rattle.graph_rules.specs.Layout.{stepCount, noState, mostStates, marksPlace, graphPlace};
+ghost use Rattle.graph_rules.specs.Graph.{graphFits, graphFrom, rewritten};
 ghost use Rattle.graph_rules.specs.Build.{relabel};
 ghost use Rattle.relabel.specs.Names.{namesOf, renamedWord, Fitting, Moved, Zeroed};
 
 // A target word, renamed.
 fn new_name(names: &[u16; 1024], u: usize) -> u16
-    requires { ⌜ length (now names) ≡ 1024 ⌝ }
-    requires { ⌜ (u < 1024) ⊎ (u ≡ 65535) ⌝ }
+    requires { ⌜ length (now names) ≡ mostStates ⌝ }
+    requires { ⌜ (u < mostStates) ⊎ (u ≡ noState) ⌝ }
     ensures { λ r. ⌜ r ≡ renamedWord (now (names .entry)) u ⌝ }
 {
     if u == 65535 {
@@ -28,8 +28,8 @@ fn new_name(names: &[u16; 1024], u: usize) -> u16
 
 // The new name of the root, 0 if it has none.
 fn root_name(names: &[u16; 1024], root: usize) -> u16
-    requires { ⌜ length (now names) ≡ 1024 ⌝ }
-    requires { ⌜ root < 1024 ⌝ }
+    requires { ⌜ length (now names) ≡ mostStates ⌝ }
+    requires { ⌜ root < mostStates ⌝ }
     ensures { λ r. ⌜ r ≡ Option·getD (getD (namesOf (now (names .entry))) root none) 0 ⌝ }
 {
     let name = names[root];
@@ -41,9 +41,9 @@ fn root_name(names: &[u16; 1024], root: usize) -> u16
 
 // Row s becomes row k, at or before it, renamed.
 fn move_row(graph: &mut [u16], names: &[u16; 1024], s: usize, k: usize)
-    requires { ⌜ length (now names) ≡ 1024 ⌝ }
-    requires { ⌜ (k ≤ s) × (s < 1024) × (graphPlace s 257 < length (now graph)) ⌝ }
-    requires { ⌜ ((c : ℕ) → c < 257 → (getD (now graph) (graphPlace s c) 0 < 1024) ⊎ (getD (now graph) (graphPlace s c) 0 ≡ 65535)) ⌝ }
+    requires { ⌜ length (now names) ≡ mostStates ⌝ }
+    requires { ⌜ (k ≤ s) × (s < mostStates) × (graphPlace s marksPlace < length (now graph)) ⌝ }
+    requires { ⌜ ((c : ℕ) → c < stepCount → (getD (now graph) (graphPlace s c) 0 < mostStates) ⊎ (getD (now graph) (graphPlace s c) 0 ≡ noState)) ⌝ }
     ensures { λ _. ⌜ Moved (now (names .entry)) s k (now (graph .entry)) (now (graph .exit)) ⌝ }
 {
     let mut c: usize = 0;
@@ -58,7 +58,7 @@ fn move_row(graph: &mut [u16], names: &[u16; 1024], s: usize, k: usize)
 
 // The words of the rows from k to n become zero.
 fn zero_rows(graph: &mut [u16], k: usize, n: usize)
-    requires { ⌜ (k ≤ n) × (n ≤ 1024) × (graphPlace n 0 ≤ length (now graph)) ⌝ }
+    requires { ⌜ (k ≤ n) × (n ≤ mostStates) × (graphPlace n 0 ≤ length (now graph)) ⌝ }
     ensures { λ _. ⌜ Zeroed (graphPlace k 0) (graphPlace n 0) (now (graph .entry)) (now (graph .exit)) ⌝ }
 {
     let end = place(n, 0);
@@ -72,9 +72,9 @@ fn zero_rows(graph: &mut [u16], k: usize, n: usize)
 // The graph of the rows that stay, each state known by its new name, 65,535 for none. Zeros take the place of the other rows.
 pub fn relabel(graph: &mut [u16], names: &[u16; 1024], stay: &[bool; 1024])
     requires { ⌜ graphFits (now graph) ≡ true ⌝ }
-    requires { ⌜ length (now names) ≡ 1024 ⌝ }
+    requires { ⌜ length (now names) ≡ mostStates ⌝ }
     requires { ⌜ Fitting (namesOf (now names)) (select (now stay) (graphFrom (now graph) .states)) (graphFrom (now graph) .root) ⌝ }
-    ensures { λ _. ⌜ now (graph .exit) ≡ graphBuffer (getD (now (graph .entry)) 0 0) (relabel (namesOf (now (names .entry))) (select (now (stay .entry)) (graphFrom (now (graph .entry)) .states)) (graphFrom (now (graph .entry)) .root)) ++ drop (2 + 258 * getD (now (graph .entry)) 0 0) (now (graph .entry)) ⌝ }
+    ensures { λ _. ⌜ now (graph .exit) ≡ rewritten (λ g. relabel (namesOf (now (names .entry))) (select (now (stay .entry)) (g .states)) (g .root)) (now (graph .entry)) ⌝ }
     ensures { λ _. ⌜ graphFits (now (graph .exit)) ≡ true ⌝ }
 {
     let n = word(graph, 0);
@@ -95,7 +95,7 @@ pub fn relabel(graph: &mut [u16], names: &[u16; 1024], stay: &[bool; 1024])
 
 // The members of a set, numbered in ascending order; 65,535 elsewhere.
 pub fn numbered(keep: &[bool; 1024]) -> [u16; 1024]
-    requires { ⌜ length (now keep) ≡ 1024 ⌝ }
+    requires { ⌜ length (now keep) ≡ mostStates ⌝ }
     ensures { λ r. ⌜ namesOf r ≡ numberFrom 0 (now (keep .entry)) ⌝ }
 {
     let mut out = [65535u16; 1024];

@@ -19,7 +19,7 @@ use Rattle.graph_rules.specs.Table.{tableOf, size, refusal}
 use Rattle.graph_rules.specs.Graph.{State, Graph, stateWords, graphWords, graphBuffer}
 use Rattle.graph_rules.specs.Build.{reached, renamed, relabel, restrict, firstState, wholeGraph}
 use Rattle.graph_rules.proofs.Shape.{size-is}
-use Rattle.words.specs.Places.{graphPlace}
+use Rattle.graph_rules.specs.Layout.{mostStates, rowWords, graphPlace, graphSize}
 use Rattle.legal.specs.Conditions.{states}
 use Rattle.rows.specs.Renumbering.{firstGraph, newRow}
 use Rattle.legal.proofs.Legal.{legal-sized}
@@ -38,7 +38,7 @@ rowsBefore w start set s = flatMap (renamedRow w start) (members set s)
 pub record Written (w : List ℕ) (start : ℕ) (set : List Bool) (found out : List ℕ) (k s : ℕ) : Type 0 where
   pub small : k ≤ s
   pub number : k ≡ count (take s set)
-  pub size : length (rowsBefore w start set s) ≡ 258 * k
+  pub size : length (rowsBefore w start set s) ≡ rowWords * k
   pub holds : out ≡ sets found 2 (rowsBefore w start set s)
 
 pub written-length : {w : List ℕ} {start : ℕ} {set : List Bool} {found out : List ℕ} {k s : ℕ} → Written w start set found out k s → length out ≡ length found
@@ -52,7 +52,7 @@ written-same {w} {start} {set} found′ out′ k′ s′ a b c d r =
     record {
       small = omega arith;
       number = c ∙ r .number ∙ ap (λ (x : ℕ). count (take x set)) (sym d);
-      size = ap (λ (x : ℕ). length (rowsBefore w start set x)) d ∙ r .size ∙ ap (λ (x : ℕ). 258 * x) (sym c);
+      size = ap (λ (x : ℕ). length (rowsBefore w start set x)) d ∙ r .size ∙ ap (λ (x : ℕ). rowWords * x) (sym c);
       holds = b ∙ r .holds ∙ (λ i. sets (sym a i) 2 (rowsBefore w start set (sym d i)));
     }
 
@@ -61,24 +61,24 @@ unfolding rowsBefore flatMap
 written-none w start set found = record { small = omega arith; number = refl; size = refl; holds = refl }
 
 module _ (w : List ℕ) (legal : refusal w ≡ 0) (start : ℕ) (low : start < states w) (set : List Bool)
-    (is : set ≡ reached (tableOf w) start ++ replicate (1024 - states w) false) where
+    (is : set ≡ reached (tableOf w) start ++ replicate (mostStates - states w) false) where
   abbrev keep : List Bool
   keep = reached (tableOf w) start
 
-  set-length : length set ≡ 1024
+  set-length : length set ≡ mostStates
   set-length =
       let l = reached-length w legal start low in
       let n = legal-sized w legal .few-states in
-      ap length is ∙ length-append keep (replicate (1024 - states w) false) ∙ (let r = length-replicate {A = Bool} (1024 - states w) false in omega arith)
+      ap length is ∙ length-append keep (replicate (mostStates - states w) false) ∙ (let r = length-replicate {A = Bool} (mostStates - states w) false in omega arith)
 
   set-take : (s : ℕ) → s ≤ states w → take s set ≡ take s keep
   set-take s h =
       let l = reached-length w legal start low in
-      ap (take s) is ∙ take-append-le s keep (replicate (1024 - states w) false) (omega arith)
+      ap (take s) is ∙ take-append-le s keep (replicate (mostStates - states w) false) (omega arith)
 
   -- the first n flags of the set are the reached states
   set-whole : take (states w) set ≡ keep
-  set-whole = ap (take (states w)) is ∙ take-at keep (replicate (1024 - states w) false) (states w) (reached-length w legal start low)
+  set-whole = ap (take (states w)) is ∙ take-at keep (replicate (mostStates - states w) false) (states w) (reached-length w legal start low)
 
   module _ (numbers : List ℕ) (new : (s : ℕ) → s ≤ states w → getD numbers s 0 ≡ count (take s set)) where
     named : (s : ℕ) → s ≤ states w → getD numbers s 0 ≡ count (take s keep)
@@ -108,7 +108,7 @@ module _ (w : List ℕ) (legal : refusal w ≡ 0) (start : ℕ) (low : start < s
       written-in e =
           let rows = rowsBefore w start set s in
           let l = reached-length w legal start low in
-          let i : In keep s = sym (ap (λ (x : List Bool). getD x s false) is ∙ List·getD-append keep (replicate (1024 - states w) false) false s (omega arith)) ∙ e in
+          let i : In keep s = sym (ap (λ (x : List Bool). getD x s false) is ∙ List·getD-append keep (replicate (mostStates - states w) false) false s (omega arith)) ∙ e in
           let row : newRow (tableOf w) numbers s ≡ renamedRow w start s = row-is w legal start low numbers named s i in
           let more : rowsBefore w start set (s + 1) ≡ rows ++ renamedRow w start s =
           ap (flatMap (renamedRow w start)) (members-in set s inside e) ∙ flatMap-one (renamedRow w start) (members set s) s in
@@ -116,7 +116,7 @@ module _ (w : List ℕ) (legal : refusal w ≡ 0) (start : ℕ) (low : start < s
           let b = r .small in
           let c = count-take-in set s e in
           let n = r .number in
-          let wide : length (renamedRow w start s) ≡ 258 = ap length (sym row) ∙ row-length w (legal-sized w legal) numbers s h in
+          let wide : length (renamedRow w start s) ≡ rowWords = ap length (sym row) ∙ row-length w (legal-sized w legal) numbers s h in
           record {
             small = omega arith;
             number = omega arith;
@@ -166,8 +166,8 @@ module _ (w : List ℕ) (legal : refusal w ≡ 0) (start : ℕ) (low : start < s
 
   -- with the words in front and the zeros after them
   pub written-all : (buffer out : List ℕ) (k : ℕ) (head root : ℕ) → head ≡ count (take (states w) set) → root ≡ count (take start set)
-      → 2 + 258 * states w ≤ length buffer → Written w start set (sets buffer 0 (head ∷ (root ∷ []))) out k (states w)
-      → sets out (graphPlace k 0) (replicate (graphPlace (states w) 0 - graphPlace k 0) 0) ≡ graphBuffer (states w) graph ++ drop (2 + 258 * states w) buffer
+      → graphSize (states w) ≤ length buffer → Written w start set (sets buffer 0 (head ∷ (root ∷ []))) out k (states w)
+      → sets out (graphPlace k 0) (replicate (graphPlace (states w) 0 - graphPlace k 0) 0) ≡ graphBuffer (states w) graph ++ drop (graphSize (states w)) buffer
   unfolding graphBuffer graphWords
   written-all buffer out k head root a b room r =
       let rows = rowsBefore w start set (states w) in
@@ -177,15 +177,15 @@ module _ (w : List ℕ) (legal : refusal w ≡ 0) (start : ℕ) (low : start < s
       let s = r .small in
       let z = r .size in
       let l = states-are in
-      let t : length text ≡ 2 + 258 * states w =
+      let t : length text ≡ graphSize (states w) =
       length-append (head ∷ (root ∷ rows)) zeros ∙ (let e = length-replicate {A = ℕ} (graphPlace (states w) 0 - graphPlace k 0) 0 in omega arith) in
       ap (λ (x : List ℕ). sets x (graphPlace k 0) zeros) (r .holds ∙ sym (sets-append buffer 0 (head ∷ (root ∷ [])) rows))
       ∙ ap (λ (p : ℕ). sets (sets buffer 0 (head ∷ (root ∷ rows))) p zeros) (omega arith)
       ∙ sym (sets-append buffer 0 (head ∷ (root ∷ rows)) zeros)
       ∙ sets-front buffer text (omega arith)
       ∙ ap (λ (p : ℕ). text ++ drop p buffer) t
-      ∙ ap (λ (x : List ℕ). x ++ drop (2 + 258 * states w) buffer)
+      ∙ ap (λ (x : List ℕ). x ++ drop (graphSize (states w)) buffer)
       (λ i. ((a ∙ sym l) i ∷ ((b ∙ sym root-is) i ∷ rows-are i)) ++ replicate (zero-count i) 0)
     where
-      zero-count : graphPlace (states w) 0 - graphPlace k 0 ≡ 258 * (states w - length (graph .states))
+      zero-count : graphPlace (states w) 0 - graphPlace k 0 ≡ rowWords * (states w - length (graph .states))
       zero-count = let n = r .number in let l = states-are in omega arith

@@ -22,8 +22,9 @@ use Rattle.rows.specs.Renumbering.{newTarget, newRow}
 use Rattle.legal.proofs.Counts.{row-width}
 use Rattle.legal.proofs.Legal.{legal-sized}
 use Rattle.legal.proofs.Steps.{found-below, found-step, in-found, found-in}
+use Rattle.graph_rules.specs.Layout.{stepCount, noState, rowWords, marksPlace, noLeaf, marksWord}
 
-pub target-zero : (numbers : List ℕ) (u : ℕ) → u ≡ 0 → newTarget numbers u ≡ 65535
+pub target-zero : (numbers : List ℕ) (u : ℕ) → u ≡ 0 → newTarget numbers u ≡ noState
 unfolding newTarget
 target-zero numbers u e = rw (eq-eqb u 0 e, newTarget)
 
@@ -34,15 +35,15 @@ target-other numbers u n = rw (ne-eqb u 0 n, newTarget)
 -- ---- a row's words
 
 module _ (w : List ℕ) (z : Sized w) (numbers : List ℕ) (s : ℕ) (h : s < states w) where
-  front-length : length (map (newTarget numbers) (rowOf (tableOf w) s .steps)) ≡ 257
+  front-length : length (map (newTarget numbers) (rowOf (tableOf w) s .steps)) ≡ stepCount
   front-length = length-map (rowOf (tableOf w) s .steps) (newTarget numbers) ∙ row-width w z s h
 
-  pub row-length : length (newRow (tableOf w) numbers s) ≡ 258
+  pub row-length : length (newRow (tableOf w) numbers s) ≡ rowWords
   unfolding newRow
   row-length =
-      length-append (map (newTarget numbers) (rowOf (tableOf w) s .steps)) ((Option·getD (leafOf (tableOf w) s) 255 + 256 * 255) ∷ []) ∙ (let l = front-length in omega arith)
+      length-append (map (newTarget numbers) (rowOf (tableOf w) s .steps)) ((marksWord (Option·getD (leafOf (tableOf w) s) noLeaf) noLeaf) ∷ []) ∙ (let l = front-length in omega arith)
 
-  pub row-target : (c : ℕ) → c < 257 → getD (newRow (tableOf w) numbers s) c 0 ≡ newTarget numbers (targetWord w s c)
+  pub row-target : (c : ℕ) → c < stepCount → getD (newRow (tableOf w) numbers s) c 0 ≡ newTarget numbers (targetWord w s c)
   unfolding newRow step
   row-target c b =
       let l = front-length in
@@ -51,9 +52,9 @@ module _ (w : List ℕ) (z : Sized w) (numbers : List ℕ) (s : ℕ) (h : s < st
       ∙ map-at (newTarget numbers) (rowOf (tableOf w) s .steps) c 0 0 (omega arith)
       ∙ ap (newTarget numbers) (step-word w s c h b)
 
-  pub row-marks : getD (newRow (tableOf w) numbers s) 257 0 ≡ Option·getD (leafOf (tableOf w) s) 255 + 256 * 255
+  pub row-marks : getD (newRow (tableOf w) numbers s) marksPlace 0 ≡ marksWord (Option·getD (leafOf (tableOf w) s) noLeaf) noLeaf
   unfolding newRow
-  row-marks = getD-at (map (newTarget numbers) (rowOf (tableOf w) s .steps)) (Option·getD (leafOf (tableOf w) s) 255 + 256 * 255) [] 0 257 front-length
+  row-marks = getD-at (map (newTarget numbers) (rowOf (tableOf w) s .steps)) (marksWord (Option·getD (leafOf (tableOf w) s) noLeaf) noLeaf) [] 0 marksPlace front-length
 
 -- ---- the words of the renamed state
 
@@ -62,11 +63,11 @@ led-is names none = refl
 led-is names (some u) = refl
 
 targets-are : (numbers : List ℕ) (names : List (Option ℕ)) (l : List ℕ)
-    → ((c : ℕ) → c < length l → newTarget numbers (getD l c 0) ≡ Option·getD (led names (edge (getD l c 0))) 65535)
-    → map (newTarget numbers) l ≡ map (λ o. Option·getD o 65535) (map (λ o. elim o [ none ↦ none | some u ↦ getD names u none ]) (map edge l))
+    → ((c : ℕ) → c < length l → newTarget numbers (getD l c 0) ≡ Option·getD (led names (edge (getD l c 0))) noState)
+    → map (newTarget numbers) l ≡ map (λ o. Option·getD o noState) (map (λ o. elim o [ none ↦ none | some u ↦ getD names u none ]) (map edge l))
 targets-are numbers names [] f = refl
 targets-are numbers names (x ∷ l) f =
-    let a = f 0 (suc-le-suc zero-le) ∙ ap (λ (o : Option ℕ). Option·getD o 65535) (led-is names (edge x)) in
+    let a = f 0 (suc-le-suc zero-le) ∙ ap (λ (o : Option ℕ). Option·getD o noState) (led-is names (edge x)) in
     let b = targets-are numbers names l (λ c h. f (suc c) (suc-le-suc h)) in
     λ i. a i ∷ b i
 
@@ -76,14 +77,14 @@ module _ (w : List ℕ) (legal : refusal w ≡ 0) (start : ℕ) (below : start <
   names = numberFrom 0 (reached (tableOf w) start)
 
   -- a target that is reached
-  target-is : (u : ℕ) → In (reached (tableOf w) start) u → newTarget numbers u ≡ Option·getD (led names (edge u)) 65535
+  target-is : (u : ℕ) → In (reached (tableOf w) start) u → newTarget numbers u ≡ Option·getD (led names (edge u)) noState
   target-is zero i = target-zero numbers 0 refl
   target-is (suc u) i =
       let l = found-below w legal start below (suc u) (in-found w legal start below (suc u) i) in
       target-other numbers (suc u) (λ e. omega arith)
       ∙ new (suc u) (omega arith)
       ∙ (let z : count (take (suc u) (reached (tableOf w) start)) ≡ 0 + count (take (suc u) (reached (tableOf w) start)) = omega arith in z)
-      ∙ ap (λ (o : Option ℕ). Option·getD o 65535) (sym (number-count 0 (reached (tableOf w) start) (suc u) i))
+      ∙ ap (λ (o : Option ℕ). Option·getD o noState) (sym (number-count 0 (reached (tableOf w) start) (suc u) i))
 
   pub row-is : (s : ℕ) → In (reached (tableOf w) start) s → newRow (tableOf w) numbers s ≡ stateWords (renamed names (firstState (tableOf w) s))
   unfolding newRow stateWords renamed firstState step
@@ -91,7 +92,7 @@ module _ (w : List ℕ) (legal : refusal w ≡ 0) (start : ℕ) (below : start <
       let r = in-found w legal start below s i in
       let h = found-below w legal start below s r in
       let l = row-width w (legal-sized w legal) s h in
-      ap (λ (f : List ℕ). f ++ ((Option·getD (leafOf (tableOf w) s) 255 + 256 * 255) ∷ []))
+      ap (λ (f : List ℕ). f ++ ((marksWord (Option·getD (leafOf (tableOf w) s) noLeaf) noLeaf) ∷ []))
       (targets-are numbers names (rowOf (tableOf w) s .steps)
-      (λ c b. let b′ : c < 257 = omega arith in
+      (λ c b. let b′ : c < stepCount = omega arith in
       target-is _ (rw (step-word w s c h b′) (found-in w legal start below _ (found-step w legal start below s c r b′)))))

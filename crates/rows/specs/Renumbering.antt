@@ -8,6 +8,7 @@ use lib.ListN.{getD}
 use Rattle.graph_rules.specs.Table.{Table, rowOf}
 use Rattle.graph_rules.specs.Graph.{Graph}
 use Rattle.graph_rules.specs.Build.{reached, restrict, wholeGraph, leafOf}
+use Rattle.graph_rules.specs.Layout.{noState, noLeaf, marksWord}
 
 -- the graph of the states that are reached from s
 abbrev pub firstGraph : Table → ℕ → Graph
@@ -15,8 +16,8 @@ firstGraph t s = restrict (reached t s) (wholeGraph t s)
 
 -- a target's word: 65,535 where the step leads to state 0 and is dropped, else the target's new number
 unfoldable pub newTarget : List ℕ → ℕ → ℕ
-newTarget numbers u = elim (eqb u 0) [ true ↦ 65535 | false ↦ getD numbers u 0 ]
+newTarget numbers u = elim (eqb u 0) [ true ↦ noState | false ↦ getD numbers u 0 ]
 
 -- the 257 targets, and the marks word: the state's leaf, and no early leaf
 unfoldable pub newRow : Table → List ℕ → ℕ → List ℕ
-newRow t numbers s = map (newTarget numbers) (rowOf t s .steps) ++ ((Option·getD (leafOf t s) 255 + 256 * 255) ∷ [])
+newRow t numbers s = map (newTarget numbers) (rowOf t s .steps) ++ ((marksWord (Option·getD (leafOf t s) noLeaf) noLeaf) ∷ [])

@@ -8,9 +8,9 @@ ghost use lib.ListN.{length, getD, take, drop, replicate};
 ghost use lib.Seq.{sets};
 ghost use Rattle.lists.specs.Sets.{count};
 ghost use Rattle.graph_rules.specs.Build.{reached};
-ghost use Rattle.graph_rules.specs.Graph.{graphBuffer};
+ghost use Rattle.graph_rules.specs.Graph.{writtenOn};
 ghost use Rattle.graph_rules.specs.Table.{refusal, tableOf};
-ghost use Rattle.words.specs.Places.{graphPlace};
+ghost use Rattle.graph_rules.specs.Layout.{mostStates, rowWords, graphPlace, graphSize};
 ghost use Rattle.rows.specs.Renumbering.{firstGraph, newTarget, newRow};
 use leaves::leaf_of;
 use words::graph::place;
@@ -22,7 +22,7 @@ use words::zero;
 
 // Of each state up to n, the number of states in the set before it.
 fn numbers(set: &[bool; 1024], n: usize) -> [u16; 1025]
-    requires { ⌜ n ≤ 1024 ⌝ }
+    requires { ⌜ n ≤ mostStates ⌝ }
     ensures { λ r. ⌜ ((s : ℕ) → s ≤ n → getD r s 0 ≡ count (take s (now (set .entry)))) ⌝ }
 {
     let mut out = [0u16; 1025];
@@ -53,8 +53,8 @@ fn new_target(numbers: &[u16; 1025], u: usize) -> u16
 fn write_row(table: &[u16], s: usize, numbers: &[u16; 1025], graph: &mut [u16], k: usize)
     requires { ⌜ refusal (now table) ≡ 0 ⌝ }
     requires { ⌜ s < getD (now table) 0 0 ⌝ }
-    requires { ⌜ k < 1024 ⌝ }
-    requires { ⌜ graphPlace k 258 ≤ length (now graph) ⌝ }
+    requires { ⌜ k < mostStates ⌝ }
+    requires { ⌜ graphPlace k rowWords ≤ length (now graph) ⌝ }
     ensures { λ _. ⌜ now (graph .exit) ≡ sets (now (graph .entry)) (graphPlace k 0) (newRow (tableOf (now (table .entry))) (now (numbers .entry)) s) ⌝ }
 {
     let m = leaves(table);
@@ -73,10 +73,10 @@ fn write_row(table: &[u16], s: usize, numbers: &[u16; 1025], graph: &mut [u16], 
 pub fn write(table: &[u16], start: usize, set: &[bool; 1024], graph: &mut [u16]) -> usize
     requires { ⌜ refusal (now table) ≡ 0 ⌝ }
     requires { ⌜ start < getD (now table) 0 0 ⌝ }
-    requires { ⌜ now set ≡ reached (tableOf (now table)) start ++ replicate (1024 - getD (now table) 0 0) false ⌝ }
-    requires { ⌜ 2 + 258 * getD (now table) 0 0 ≤ length (now graph) ⌝ }
+    requires { ⌜ now set ≡ reached (tableOf (now table)) start ++ replicate (mostStates - getD (now table) 0 0) false ⌝ }
+    requires { ⌜ graphSize (getD (now table) 0 0) ≤ length (now graph) ⌝ }
     ensures { λ r. ⌜ r ≡ length (firstGraph (tableOf (now (table .entry))) start .states) ⌝ }
-    ensures { λ _. ⌜ now (graph .exit) ≡ graphBuffer (getD (now (table .entry)) 0 0) (firstGraph (tableOf (now (table .entry))) start) ++ drop (2 + 258 * getD (now (table .entry)) 0 0) (now (graph .entry)) ⌝ }
+    ensures { λ _. ⌜ now (graph .exit) ≡ writtenOn (getD (now (table .entry)) 0 0) (firstGraph (tableOf (now (table .entry))) start) (now (graph .entry)) ⌝ }
 {
     let n = states(table);
     let new = numbers(set, n);

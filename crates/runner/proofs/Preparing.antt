@@ -13,7 +13,7 @@ use lib.Seq.{getD-set-same, getD-set-other}
 use Rattle.lists.specs.Lists.{below, allL}
 use Rattle.lists.proofs.Bools.{Order, less, equal, more, order}
 use Rattle.lists.proofs.Elements.{length-tab, getD-tab0, all-at, all-intro, eqb-sound}
-use Rattle.lists.proofs.Distinct.{those-keep}
+use Rattle.lists.proofs.Those.{those-keep}
 use Rattle.classes.specs.Classes.{comparisons, cost}
 use Rattle.graph_rules.specs.Graph.{State, Graph, stateOf, graphFrom}
 use Rattle.graph_rules.proofs.Flat.{from-length}

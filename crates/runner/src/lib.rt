@@ -3,8 +3,8 @@
 //
 // The run is defined in crates/plan_rules. What of a graph is worked out once, before its texts are run, is in specs/Prepared.antt.
 
-mod step;
+mod comparisons;
 pub mod prepare;
 pub mod run;
 mod self_run;
-mod comparisons;
+mod step;

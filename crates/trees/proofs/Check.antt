@@ -9,8 +9,7 @@ use lib.Dec.{eqb, leb, ltb}
 use lib.ListN.{length, getD}
 use borrow.Author.Tests.{lt-ltb, le-ltb, ltb-true, le-leb, lt-leb, leb-true, eq-eqb, ne-eqb, eqb-true}
 use Rattle.lists.specs.Lists.{tab, allL, those}
-use Rattle.lists.proofs.Bools.{and-both, and-intro, and-false, and-true, bool-ext, or-left, or-right, Order, order, less, equal, more}
-use Rattle.lists.proofs.Disjunctions.{or-other}
+use Rattle.lists.proofs.Bools.{and-both, and-intro, and-false, and-true, bool-ext, or-left, or-right, Order, order, less, equal, more, or-other}
 use Rattle.lists.proofs.Elements.{getD-tab0}
 use Rattle.lists.proofs.Intervals.{from, all-from, from-all, count-none}
 use Rattle.trees.specs.Tree.{count, recordOf, numbers, ruleOf, fieldsFit, childrenFit, literalFits, recordFits, named, treeFits}

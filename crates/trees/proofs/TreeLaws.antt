@@ -8,8 +8,7 @@ use lib.Dec.{eqb, leb, ltb}
 use lib.ListN.{length, take, drop}
 use borrow.Author.Tests.{eq-eqb, ne-eqb, ltb-true, leb-true, eqb-true}
 use Rattle.lists.specs.Lists.{allL}
-use Rattle.lists.proofs.Bools.{and-both}
-use Rattle.lists.proofs.Disjunctions.{implied, or-other}
+use Rattle.lists.proofs.Bools.{and-both, implied, or-other}
 use Rattle.lists.proofs.Intervals.{all-from}
 use Rattle.trees.specs.Tree.{Tree, Chain, empty, literal, class, look, repetition, capture, concat, alternation, done, part, firstOf, flag, count, recordOf, numbers, treeOf, chainFrom, chainAt, treeAt, ruleOf, fieldsFit, indicesFit, childrenFit, literalFits, recordFits, named, treeFits}
 use Rattle.trees.specs.declared.tree.Record.{Record}

@@ -1,17 +1,17 @@
 -- The division of a text into the sequences of Table 3-7: there is at most one (`one-division`), and `codePoints` counts its sequences
 -- (`points-divide`). Assumes nothing.
-use mathlib.Core.Path.{_≡_, refl, sym, ap, subst, _∙_}
+use mathlib.Core.Path.{_≡_, refl, sym, ap, _∙_}
 use mathlib.Core.Bool.{Bool, true, false, false≢true}
-use mathlib.Core.List.{List, [], _∷_, _++_, append-assoc}
+use mathlib.Core.List.{List, [], _∷_, _++_}
 use mathlib.Core.Option.{Option, none, some}
 use mathlib.Core.Logic.{_↔_}
 use Prim.Native.Nat.{ℕ, suc}
 use native.Mathlib.Omega.{arith}
 use lib.ListN.{length}
 use Rattle.lists.specs.Lists.{allL, anyL}
-use Rattle.lists.proofs.Bools.{Is, is, yes-is, no-is, and-both, and-intro, or-left, or-right, none-some, some-inj}
+use Rattle.lists.proofs.Bools.{and-both, and-intro, or-left, or-right, none-some, some-inj}
 use Rattle.utf8.specs.Utf8.{Range, within, lines, lineOf, fitsLine, admitted, joined, Division, oneMore, divided, codePoints}
-use Rattle.utf8.proofs.LeadBytes.{Led, led}
+use Rattle.utf8.proofs.LeadBytes.{led}
 
 -- ---- what an Option tells
 

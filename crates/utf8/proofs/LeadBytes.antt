@@ -8,8 +8,8 @@ use lib.Dec.{eqb, leb, ltb}
 use lib.ListN.{length, getD, replicate}
 use borrow.Author.Tests.{eq-eqb, eqb-true, ltb-true, leb-true}
 use Rattle.lists.specs.Lists.{tab, allL, eqList}
-use Rattle.lists.proofs.Bools.{and-both, and-intro}
-use Rattle.lists.proofs.Disjunctions.{implied, any-at}
+use Rattle.lists.proofs.Bools.{and-both, and-intro, implied}
+use Rattle.lists.proofs.Any.{any-found}
 use Rattle.lists.proofs.Elements.{Sound, list-sound, all-at}
 use Rattle.lists.proofs.Intervals.{from, all-from}
 use Rattle.utf8.specs.Utf8.{Range, span, within, trail, lines, lineOf, widthOf, fitsLine, admitted}
@@ -125,6 +125,6 @@ led-by (b ∷ s) (r ∷ due) high one f =
 pub led : (s : List ℕ) → admitted s ≡ true → Led s
 unfolding admitted leadUnique
 led s h =
-    let (i, b, f) = any-at (λ line. fitsLine line s) [] lines h in
+    let (i, b, f) = any-found (λ line. fitsLine line s) [] lines h in
     led-by s (getD lines i []) (all-at highFits lines i [] all-high b)
     (λ k u. all-at (oneLine k) lines i [] (all-from leadUnique 256 0 all-unique k (omega arith) (omega arith)) b) f

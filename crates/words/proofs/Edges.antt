@@ -1,6 +1,5 @@
 -- A pass over all edges of a graph, state by state, that collects what they hit: what it has after some edges, and after all. Assumes nothing.
 use mathlib.Core.Path.{_≡_, subst, subst₂}
-use mathlib.Core.Option.{some}
 use mathlib.Core.Logic.{_⊎_, inl, inr, ⊎-elim}
 use Prim.Native.Nat.{ℕ, _+_, _≤_, _<_}
 use native.Mathlib.Nat.{not-suc-le-zero, eq-or-lt-of-le}

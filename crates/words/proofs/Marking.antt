@@ -4,7 +4,7 @@ use mathlib.Core.Path.{_≡_, refl, sym, ap, _∙_}
 use mathlib.Core.Bool.{true}
 use mathlib.Core.List.{List, _++_}
 use mathlib.Core.Option.{Option, Option·getD}
-use Prim.Native.Nat.{ℕ, _+_, _*_, _≤_, _<_}
+use Prim.Native.Nat.{ℕ, _+_, _≤_, _<_}
 use native.Mathlib.Nat.{not-suc-le-zero}
 use native.Mathlib.Omega.{arith}
 use borrow.Author.Count.{below-more}
@@ -15,35 +15,36 @@ use Rattle.graph_rules.proofs.Fits.{Fits}
 use Rattle.graph_rules.proofs.Taken.{taken-long, taken-few, taken-root, taken-target}
 use Rattle.words.proofs.GraphWords.{words-fit, target-is}
 use Rattle.words.proofs.Buffers.{same-after, written}
+use Rattle.graph_rules.specs.Layout.{stepCount, noState, marksPlace, graphPlace, graphSize, noLeaf, marksWord}
 
 -- w₀: the words at the beginning; mark: the new marks word of each state; s: the states passed
 pub record Marked (w₀ : List ℕ) (mark : ℕ → ℕ) (s : ℕ) (w : List ℕ) : Type 0 where
   pub len : length w ≡ length w₀
-  pub done : (k : ℕ) → k < s → getD w (2 + 258 * k + 257) 0 ≡ mark k
-  pub other : (i : ℕ) → ((k : ℕ) → k < s → i ≡ 2 + 258 * k + 257 → ⊥) → getD w i 0 ≡ getD w₀ i 0
+  pub done : (k : ℕ) → k < s → getD w (graphPlace k marksPlace) 0 ≡ mark k
+  pub other : (i : ℕ) → ((k : ℕ) → k < s → i ≡ graphPlace k marksPlace → ⊥) → getD w i 0 ≡ getD w₀ i 0
 
 module _ (w₀ : List ℕ) (mark : ℕ → ℕ) where
   pub marked-none : Marked w₀ mark 0 w₀
   marked-none = record { len = refl; done = λ k h. absurd (not-suc-le-zero h); other = λ i f. refl }
 
-  pub marked-more : (s : ℕ) (w : List ℕ) → 2 + 258 * s + 257 < length w₀ → Marked w₀ mark s w → Marked w₀ mark (s + 1) (set w (2 + 258 * s + 257) (mark s))
+  pub marked-more : (s : ℕ) (w : List ℕ) → graphPlace s marksPlace < length w₀ → Marked w₀ mark s w → Marked w₀ mark (s + 1) (set w (graphPlace s marksPlace) (mark s))
   marked-more s w h m =
-      let at = 2 + 258 * s + 257 in
+      let at = graphPlace s marksPlace in
       let e = m .len in
       record {
         len = length-set w at (mark s) ∙ m .len;
         done = below-more _ s
-            (λ k l. getD-set-other w at (2 + 258 * k + 257) (mark s) 0 (λ q. let q′ : 2 + 258 * k + 257 ≡ at = q in omega arith) ∙ m .done k l)
+            (λ k l. getD-set-other w at (graphPlace k marksPlace) (mark s) 0 (λ q. let q′ : graphPlace k marksPlace ≡ at = q in omega arith) ∙ m .done k l)
             (getD-set-same w at (mark s) 0 (omega arith));
         other = λ i f. getD-set-other w at i (mark s) 0 (λ q. f s (omega arith) q) ∙ m .other i (λ k l q. f k (omega arith) q);
       }
 
   -- a state that keeps its marks
-  pub marked-keep : (s : ℕ) (w : List ℕ) → getD w₀ (2 + 258 * s + 257) 0 ≡ mark s → Marked w₀ mark s w → Marked w₀ mark (s + 1) w
+  pub marked-keep : (s : ℕ) (w : List ℕ) → getD w₀ (graphPlace s marksPlace) 0 ≡ mark s → Marked w₀ mark s w → Marked w₀ mark (s + 1) w
   marked-keep s w e m =
       record {
         len = m .len;
-        done = below-more _ s (m .done) (m .other (2 + 258 * s + 257) (λ k l q. omega arith) ∙ e);
+        done = below-more _ s (m .done) (m .other (graphPlace s marksPlace) (λ k l q. omega arith) ∙ e);
         other = λ i f. m .other i (λ k l q. f k (omega arith) q);
       }
 
@@ -57,12 +58,12 @@ module _ (w₀ : List ℕ) (taken : graphFits w₀ ≡ true) (mark : ℕ → ℕ
   pub marked-root : getD w 1 0 ≡ getD w₀ 1 0
   marked-root = m .other 1 (λ k l q. omega arith)
 
-  pub marked-target : (k c : ℕ) → c < 257 → getD w (2 + 258 * k + c) 0 ≡ getD w₀ (2 + 258 * k + c) 0
-  marked-target k c b = m .other (2 + 258 * k + c) (λ j l q. omega arith)
+  pub marked-target : (k c : ℕ) → c < stepCount → getD w (graphPlace k c) 0 ≡ getD w₀ (graphPlace k c) 0
+  marked-target k c b = m .other (graphPlace k c) (λ j l q. omega arith)
 
   -- the marks of a state that has not been passed
-  pub marked-later : (k : ℕ) → s ≤ k → getD w (2 + 258 * k + 257) 0 ≡ getD w₀ (2 + 258 * k + 257) 0
-  marked-later k h = m .other (2 + 258 * k + 257) (λ j l q. omega arith)
+  pub marked-later : (k : ℕ) → s ≤ k → getD w (graphPlace k marksPlace) 0 ≡ getD w₀ (graphPlace k marksPlace) 0
+  marked-later k h = m .other (graphPlace k marksPlace) (λ j l q. omega arith)
 
   pub marked-fits : graphFits w ≡ true
   marked-fits =
@@ -74,20 +75,20 @@ module _ (w₀ : List ℕ) (taken : graphFits w₀ ≡ true) (mark : ℕ → ℕ
       (rw (e, marked-root) (taken-root w₀ taken))
 
   -- the words after the last state stay, whatever their number
-  marked-rest : s ≡ n → drop (2 + 258 * n) w ≡ drop (2 + 258 * n) w₀
-  marked-rest all = same-after (2 + 258 * n) w₀ w (m .len) (λ i h. m .other i (λ k b q. omega arith))
+  marked-rest : s ≡ n → drop (graphSize n) w ≡ drop (graphSize n) w₀
+  marked-rest all = same-after (graphSize n) w₀ w (m .len) (λ i h. m .other i (λ k b q. omega arith))
 
   -- when all are passed: the buffer of a graph with the same edges and the new marks
-  pub marked-all : s ≡ getD w₀ 0 0 → (g : Graph) → Fits 255 n g → length (g .states) ≡ getD w₀ 0 0 → g .root ≡ getD w₀ 1 0
+  pub marked-all : s ≡ getD w₀ 0 0 → (g : Graph) → Fits noLeaf n g → length (g .states) ≡ getD w₀ 0 0 → g .root ≡ getD w₀ 1 0
       → ((k c : ℕ) → to g k c ≡ to (graphFrom w₀) k c)
-      → ((k : ℕ) → k < getD w₀ 0 0 → mark k ≡ Option·getD (acceptOf g k) 255 + 256 * Option·getD (earlyOf g k) 255)
-      → w ≡ graphBuffer (getD w₀ 0 0) g ++ drop (2 + 258 * getD w₀ 0 0) w₀
+      → ((k : ℕ) → k < getD w₀ 0 0 → mark k ≡ marksWord (Option·getD (acceptOf g k) noLeaf) (Option·getD (earlyOf g k) noLeaf))
+      → w ≡ graphBuffer (getD w₀ 0 0) g ++ drop (graphSize (getD w₀ 0 0)) w₀
   marked-all all g f size root targets marks =
       let e = m .len in
       let long = taken-long w₀ taken in
       rw (← marked-rest all)
-      (written 255 n (omega arith) (taken-few w₀ taken) g f w (rw e long) (marked-count ∙ sym size) (marked-root ∙ sym root)
+      (written noLeaf n (omega arith) (taken-few w₀ taken) g f w (rw e long) (marked-count ∙ sym size) (marked-root ∙ sym root)
       (λ k c b l.
-      marked-target k c l ∙ sym (target-is w₀ taken k c (omega arith) l) ∙ ap (λ (o : Option ℕ). Option·getD o 65535) (sym (targets k c)))
+      marked-target k c l ∙ sym (target-is w₀ taken k c (omega arith) l) ∙ ap (λ (o : Option ℕ). Option·getD o noState) (sym (targets k c)))
       (λ k b. m .done k (omega arith) ∙ marks k (omega arith))
       (λ i a b. absurd (omega arith)))

@@ -1,12 +1,5 @@
-// The layouts of graph words and table words (document 01), each drawn once, beside the functions that say where a word stands. All other code
-// goes through them.
-//
-// Graph words: 0 the number of states; 1 the root; then 258 words a state: the targets of the bytes 0 to 255, the end target (65,535: none), and
-// the marks word, accept + 256 × early (255: none).
-//
-// Table words: 0 n, the number of states; 1 the start (65,535: none); 2 m, the number of leaves; 3 r, the number of match records. Then three
-// words a leaf: priority low half, high half, 1 if it can match empty text. Then 258 words a state: the targets of the bytes 0 to 255, the end
-// target, the head of its match chain. Then two words a match record, numbered from 1: leaf, next.
+// The layouts of graph words (`graph`) and of table words (`table`): each is drawn once, beside the functions through which alone all other code
+// reads and writes such words.
 ghost use mathlib.Core.Path.{_≡_};
 ghost use Prim.Native.Nat.{_<_, _≤_, _-_};
 ghost use lib.ListN.{length, getD, replicate};
@@ -14,7 +7,15 @@ ghost use lib.Seq.{sets};
 
 pub mod graph;
 pub mod table;
-pub mod views;
+
+// The end step comes behind the steps of the bytes 0 to 255.
+pub const END: usize = 256;
+// The steps of a state.
+pub const STEPS: usize = 257;
+// The word that is no state's number: no target, no start.
+pub const NONE: usize = 65535;
+// The most states.
+pub const STATES: usize = 1024;
 
 // Word i.
 pub fn word(words: &[u16], i: usize) -> usize

@@ -1,8 +1,15 @@
-// Where the words of a table stand. m and n are its numbers of leaves and states.
+// Table words: 0 n, the number of states; 1 the start; 2 m, the number of leaves; 3 r, the number of match records. Then three words a leaf: priority
+// low half, high half, 1 if it can match empty text. Then a row a state: the targets of the bytes 0 to 255, the end target, the head of its match
+// chain. Then two words a match record, numbered from 1: leaf, next.
 ghost use mathlib.Core.Path.{_≡_};
 ghost use Prim.Native.Nat.{_<_, _≤_};
 ghost use lib.ListN.{length, getD};
-ghost use Rattle.words.specs.Places.{leafPlace, rowPlace, matchPlace, tableLength};
+ghost use Rattle.graph_rules.specs.Layout.{leafPlace, rowPlace, matchPlace, tableLength};
+
+// The words of a row.
+pub const ROW: usize = 258;
+// The place of the chain's head in a row, behind the targets.
+pub const HEAD: usize = 257;
 
 // The place of word c of leaf l: priority low half, high half, empty flag.
 pub fn leaf_place(l: usize, c: usize) -> usize
@@ -13,14 +20,14 @@ pub fn leaf_place(l: usize, c: usize) -> usize
     4 + 3 * l + c
 }
 
-// The place of word c of state s: a byte's target, at 256 the end target, at 257 the head of the chain.
+// The place of word c of state s: a step's target, or the head of the chain.
 pub fn row_place(m: usize, s: usize, c: usize) -> usize
     requires { ⌜ m < 65536 ⌝ }
     requires { ⌜ s < 65536 ⌝ }
     requires { ⌜ c < 65536 ⌝ }
     ensures { λ r. ⌜ r ≡ rowPlace m s c ⌝ }
 {
-    4 + 3 * m + 258 * s + c
+    4 + 3 * m + ROW * s + c
 }
 
 // The place of word c, 0 or 1, of match record i, from 1.
@@ -32,7 +39,7 @@ pub fn match_place(m: usize, n: usize, i: usize, c: usize) -> usize
     requires { ⌜ c < 65536 ⌝ }
     ensures { λ r. ⌜ r ≡ matchPlace m n i c ⌝ }
 {
-    4 + 3 * m + 258 * n + 2 * (i - 1) + c
+    4 + 3 * m + ROW * n + 2 * (i - 1) + c
 }
 
 // Word c of leaf l.
@@ -76,7 +83,7 @@ pub fn size(n: usize, m: usize, r: usize) -> usize
     requires { ⌜ r < 65536 ⌝ }
     ensures { λ k. ⌜ k ≡ tableLength n m r ⌝ }
 {
-    4 + 3 * m + 258 * n + 2 * r
+    4 + 3 * m + ROW * n + 2 * r
 }
 
 // n, the number of states.
@@ -87,7 +94,7 @@ pub fn states(table: &[u16]) -> usize
     crate::word(table, 0)
 }
 
-// The start state, or 65,535.
+// The start state, or NONE.
 pub fn start(table: &[u16]) -> usize
     requires { ⌜ 4 ≤ length (now table) ⌝ }
     ensures { λ k. ⌜ (k ≡ getD (now (table .entry)) 1 0) × (k < 65536) ⌝ }

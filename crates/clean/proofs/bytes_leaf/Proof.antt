@@ -5,7 +5,7 @@ use native.Mathlib.Omega.{arith}
 use borrow.Author.Count.{below-more}
 use lib.ListN.{getD}
 use Rattle.graph_rules.specs.Graph.{orNone}
-use Rattle.words.specs.Places.{rowPlace}
+use Rattle.graph_rules.specs.Layout.{noLeaf, rowPlace}
 use Rattle.leaves.proofs.Records.{sizes}
 use Rattle.clean.proofs.Rows.{by-low, bytes-same, bytes-differ}
 use Rattle.clean.proofs.bytes_leaf.Statement.{statement}
@@ -91,7 +91,7 @@ returns-2 c =
     let leaf = at .args .leaf .now in
     let l = c .before .loop in
     let first = ap (λ (x : ℕ). getD leaf x 0) (first-is (c .before .before .before)) in
-    ap (orNone 255) first
+    ap (orNone noLeaf) first
     ∙ bytes-same w (at .pre .0) leaf (at .pre .1 .0) (at .args .s) (at .pre .1 .1) (λ b h. l .inv .2 b (omega arith) ∙ first)
 
 pub bytes-leaf-spec : {M : Type 1} → statement M

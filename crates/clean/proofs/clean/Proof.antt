@@ -14,6 +14,7 @@ use Rattle.clean.specs.Answers.{verdict}
 use Rattle.clean.proofs.Breaches.{error-no-start, error-empty, breaks-first, clean-refused, clean-answered}
 use Rattle.clean.proofs.clean.Statement.{statement}
 use Rattle.clean.proofs.clean.Tie as tie
+use Rattle.graph_rules.specs.Layout.{noState}
 
 -- the table is legal, and has a start
 is-legal : (c : tie.Else1) → refusal (c .before .before .before .args .table .now) ≡ 0
@@ -41,7 +42,7 @@ returns-2 c =
     let at = c .before .before in
     let w = at .before .before .before .args .table .now in
     let e = start-none w (sym (c .before .start .ensures .0) ∙ c .if2 .taken) in
-    sym (clean-answered w (is-legal at) ∙ ap verdict (breaks-first (tableOf w) 65535 (error-no-start (tableOf w) e)))
+    sym (clean-answered w (is-legal at) ∙ ap verdict (breaks-first (tableOf w) noState (error-no-start (tableOf w) e)))
 
 count-empty-requires : tie.Need-count-empty-requires
 count-empty-requires c κs = search needs
@@ -51,7 +52,7 @@ returns-3 c =
     let at = c .before .before in
     let w = at .before .before .before .before .before .args .table .now in
     let n : emptyLeaves (tableOf w) ≡ [] → ⊥ = λ q. c .if3 .taken (c .before .count-empty .ensures ∙ ap length q) in
-    sym (clean-answered w (is-legal (at .before .before)) ∙ ap verdict (breaks-first (tableOf w) 65535 (error-empty (tableOf w) _ (starts at) n)))
+    sym (clean-answered w (is-legal (at .before .before)) ∙ ap verdict (breaks-first (tableOf w) noState (error-empty (tableOf w) _ (starts at) n)))
 
 judged-requires : tie.Need-judged-requires
 judged-requires c κs =

@@ -4,7 +4,7 @@ use Prim.Native.Nat.{ℕ}
 use native.Mathlib.Omega.{arith}
 use borrow.Author.Needs.{needs}
 use lib.ListN.{getD}
-use Rattle.words.specs.Places.{rowPlace}
+use Rattle.graph_rules.specs.Layout.{endStep, rowPlace}
 use Rattle.leaves.proofs.Records.{sizes}
 use Rattle.clean.proofs.Rows.{endless-not, endless-leaf}
 use Rattle.clean.proofs.endless.Statement.{statement}
@@ -12,10 +12,10 @@ use Rattle.clean.proofs.endless.Tie as tie
 
 -- the end step's word
 end-is : (c : tie.After-row-word)
-    → c .row-word .result ≡ getD (c .before .before .before .args .table .now) (rowPlace (getD (c .before .before .before .args .table .now) 2 0) (c .before .before .before .args .s) 256) 0
+    → c .row-word .result ≡ getD (c .before .before .before .args .table .now) (rowPlace (getD (c .before .before .before .args .table .now) 2 0) (c .before .before .before .args .s) endStep) 0
 end-is c =
     let at = c .before .before .before .args in
-    c .row-word .ensures .0 ∙ ap (λ (m : ℕ). getD (at .table .now) (rowPlace m (at .s) 256) 0) (c .before .leaves .ensures .0)
+    c .row-word .ensures .0 ∙ ap (λ (m : ℕ). getD (at .table .now) (rowPlace m (at .s) endStep) 0) (c .before .leaves .ensures .0)
 
 leaves-requires : tie.Need-leaves-requires
 leaves-requires c κs = let z = sizes _ (c .before .pre .0) in omega arith

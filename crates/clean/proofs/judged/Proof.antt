@@ -12,9 +12,10 @@ use Rattle.clean.specs.Answers.{verdict}
 use Rattle.clean.proofs.Breaches.{error-found, end-found, breaks-first, breaks-second, breaks-third, breaks-none}
 use Rattle.clean.proofs.judged.Statement.{statement}
 use Rattle.clean.proofs.judged.Tie as tie
+use Rattle.graph_rules.specs.Layout.{noState}
 
 -- where rules 1 and 3 are broken
-error-is : (c : tie.After-lowest-tied) → errorAt (tableOf (c .before .before .before .before .before .before .args .table .now)) ≡ orNone 65535 (c .lowest-tied .result)
+error-is : (c : tie.After-lowest-tied) → errorAt (tableOf (c .before .before .before .before .before .before .args .table .now)) ≡ orNone noState (c .lowest-tied .result)
 error-is c =
     let at = c .before .before .before .before .before .before in
     error-found (at .args .table .now) (at .pre .0) (at .args .start) (at .pre .1 .0)
@@ -22,7 +23,7 @@ error-is c =
     (c .lowest-tied .ensures)
 
 end-is : (c : tie.After-lowest-endless)
-    → endAt (tableOf (c .before .before .before .before .before .before .before .before .before .before .before .before .args .table .now)) ≡ orNone 65535 (c .lowest-endless .result)
+    → endAt (tableOf (c .before .before .before .before .before .before .before .before .before .before .before .before .args .table .now)) ≡ orNone noState (c .lowest-endless .result)
 end-is c =
     let tie = c .before .before .before .before .before .before in
     let at = tie .before .before .before .before .before .before in
@@ -45,7 +46,7 @@ lowest-tied-requires c κs = search needs
 
 returns : tie.Need-returns
 returns c =
-    sym (ap verdict (breaks-first _ _ (error-is (c .before) ∙ or-number 65535 _ (c .if1 .taken))))
+    sym (ap verdict (breaks-first _ _ (error-is (c .before) ∙ or-number noState _ (c .if1 .taken))))
 
 zero-dead-requires : tie.Need-zero-dead-requires
 zero-dead-requires c κs = search needs
@@ -53,7 +54,7 @@ zero-dead-requires c κs = search needs
 returns-2 : tie.Need-returns-2
 returns-2 c =
     let e = c .before .before in
-    sym (ap verdict (breaks-second _ (error-is (e .before) ∙ or-none 65535 _ (e .if1 .left)) (sym (c .before .zero-dead .ensures) ∙ not-true _ (c .if2 .taken))))
+    sym (ap verdict (breaks-second _ (error-is (e .before) ∙ or-none noState _ (e .if1 .left)) (sym (c .before .zero-dead .ensures) ∙ not-true _ (c .if2 .taken))))
 
 lowest-endless-requires : tie.Need-lowest-endless-requires
 lowest-endless-requires c κs = search needs
@@ -62,15 +63,15 @@ returns-3 : tie.Need-returns-3
 returns-3 c =
     let z = c .before .before .before .before in
     let e = z .before .before in
-    sym (ap verdict (breaks-third _ (error-is (e .before) ∙ or-none 65535 _ (e .if1 .left)) (sym (z .before .zero-dead .ensures) ∙ not-false _ (z .if2 .left)) _
-    (end-is (c .before) ∙ or-number 65535 _ (c .if3 .taken))))
+    sym (ap verdict (breaks-third _ (error-is (e .before) ∙ or-none noState _ (e .if1 .left)) (sym (z .before .zero-dead .ensures) ∙ not-false _ (z .if2 .left)) _
+    (end-is (c .before) ∙ or-number noState _ (c .if3 .taken))))
 
 returns-4 : tie.Need-returns-4
 returns-4 c =
     let z = c .before .before .before .before in
     let e = z .before .before in
-    sym (ap verdict (breaks-none _ (error-is (e .before) ∙ or-none 65535 _ (e .if1 .left)) (sym (z .before .zero-dead .ensures) ∙ not-false _ (z .if2 .left))
-    (end-is (c .before) ∙ or-none 65535 _ (c .if3 .left))))
+    sym (ap verdict (breaks-none _ (error-is (e .before) ∙ or-none noState _ (e .if1 .left)) (sym (z .before .zero-dead .ensures) ∙ not-false _ (z .if2 .left))
+    (end-is (c .before) ∙ or-none noState _ (c .if3 .left))))
 
 pub judged-spec : {M : Type 1} → statement M
 judged-spec =

@@ -12,9 +12,10 @@ use Rattle.graph_rules.proofs.LeafWords.{leaf-back, leaf-low}
 use Rattle.leaves.proofs.Records.{sizes}
 use Rattle.clean.proofs.leaves_of.Statement.{statement}
 use Rattle.clean.proofs.leaves_of.Tie as tie
+use Rattle.graph_rules.specs.Layout.{mostStates, noLeaf}
 
 abbrev Inv-loop : tie.InvT-loop
-Inv-loop table n out₀ s₀ out s = (s ≤ n) × (length out ≡ 1024) × ((k : ℕ) → k < s → orNone 255 (getD out k 0) ≡ leafOf (tableOf table) k)
+Inv-loop table n out₀ s₀ out s = (s ≤ n) × (length out ≡ mostStates) × ((k : ℕ) → k < s → orNone noLeaf (getD out k 0) ≡ leafOf (tableOf table) k)
 
 abbrev μ-loop : tie.MeasureT-loop
 μ-loop table n out₀ s₀ out s = n - s
@@ -23,7 +24,7 @@ states-requires : tie.Need-states-requires Inv-loop μ-loop
 states-requires c κs = let z = sizes _ (c .before .pre) in omega arith
 
 loop-holds : tie.Need-loop-holds Inv-loop μ-loop
-loop-holds c = (omega arith, length-replicate {A = ℕ} 1024 255, below-none _)
+loop-holds c = (omega arith, length-replicate {A = ℕ} mostStates noLeaf, below-none _)
 
 leaf-of-requires : tie.Need-leaf-of-requires Inv-loop μ-loop
 leaf-of-requires c κs = omega arith
@@ -51,8 +52,8 @@ loop-again c =
       omega arith,
       length-set (l .out) (l .s) (c .leaf-of .result) ∙ l .inv .1,
       below-more _ (l .s)
-          (λ k h. ap (orNone 255) (getD-set-other (l .out) (l .s) k (c .leaf-of .result) 0 (λ e. let z : k ≡ l .s = e in omega arith)) ∙ l .inv .2 k h)
-          (ap (orNone 255) (getD-set-same (l .out) (l .s) (c .leaf-of .result) 0 (let z = sizes w (at .pre) in omega arith))
+          (λ k h. ap (orNone noLeaf) (getD-set-other (l .out) (l .s) k (c .leaf-of .result) 0 (λ e. let z : k ≡ l .s = e in omega arith)) ∙ l .inv .2 k h)
+          (ap (orNone noLeaf) (getD-set-same (l .out) (l .s) (c .leaf-of .result) 0 (let z = sizes w (at .pre) in omega arith))
           ∙ leaf-back w (at .pre) (l .s) (c .leaf-of .result) (c .leaf-of .ensures)),
     )
 

@@ -7,6 +7,7 @@ use Rattle.leaves.proofs.Records.{sizes}
 use Rattle.clean.proofs.Lowest.{Lowest, nothing-found, lowest-out, lowest-fails, lowest-passes, lowest-found}
 use Rattle.clean.proofs.lowest_tied.Statement.{statement}
 use Rattle.clean.proofs.lowest_tied.Tie as tie
+use Rattle.graph_rules.specs.Layout.{noState}
 
 abbrev Inv-loop : tie.InvT-loop
 Inv-loop table leaf set found₀ s₀ found s = Lowest table set (tied (tableOf table)) found s
@@ -20,7 +21,7 @@ states-requires c κs = let z = sizes _ (c .before .pre .0) in omega arith
 loop-holds : tie.Need-loop-holds Inv-loop μ-loop
 loop-holds c =
     let at = c .before .before .args in
-    subst (Lowest (at .table .now) (at .set .now) (tied (tableOf (at .table .now))) 65535) (sym (c .states .ensures .0))
+    subst (Lowest (at .table .now) (at .set .now) (tied (tableOf (at .table .now))) noState) (sym (c .states .ensures .0))
     (nothing-found (at .table .now) (at .set .now) (tied (tableOf (at .table .now))))
 
 sub-s : tie.Need-sub-s Inv-loop μ-loop

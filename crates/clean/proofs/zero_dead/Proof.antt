@@ -5,17 +5,17 @@ use native.Mathlib.Omega.{arith}
 use borrow.Author.Count.{below-none, below-more}
 use lib.ListN.{getD}
 use Rattle.lists.proofs.Judged.{judged-false}
-use Rattle.words.specs.Places.{rowPlace}
+use Rattle.graph_rules.specs.Layout.{tableRow, rowPlace}
 use Rattle.leaves.proofs.Records.{sizes}
 use Rattle.clean.proofs.Rows.{zero-judged}
 use Rattle.clean.proofs.zero_dead.Statement.{statement}
 use Rattle.clean.proofs.zero_dead.Tie as tie
 
 abbrev Inv-loop : tie.InvT-loop
-Inv-loop table m c₀ c = (c ≤ 258) × ((k : ℕ) → k < c → getD table (rowPlace (getD table 2 0) 0 k) 0 ≡ 0)
+Inv-loop table m c₀ c = (c ≤ tableRow) × ((k : ℕ) → k < c → getD table (rowPlace (getD table 2 0) 0 k) 0 ≡ 0)
 
 abbrev μ-loop : tie.MeasureT-loop
-μ-loop table m c₀ c = 258 - c
+μ-loop table m c₀ c = tableRow - c
 
 -- the word that a turn looks at
 word-is : (c : tie.After-row-word Inv-loop μ-loop)

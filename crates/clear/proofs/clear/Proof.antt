@@ -21,13 +21,14 @@ use Rattle.clear.proofs.Parents.{uncovered-at}
 use Rattle.words.proofs.Marking.{Marked, marked-none, marked-more, marked-keep, marked-count, marked-later, marked-fits, marked-all}
 use Rattle.clear.proofs.clear.Statement.{statement}
 use Rattle.clear.proofs.clear.Tie as tie
+use Rattle.graph_rules.specs.Layout.{marksPlace, graphPlace, noLeaf, marksWord, earlyIn}
 
 -- the marks word, without the accept of a covered state
 abbrev mark : List ℕ → ℕ → ℕ
-mark w k = let x = getD w (2 + 258 * k + 257) 0 in cond (covered (graphFrom w) k) (255 + 256 * (x / 256)) x
+mark w k = let x = getD w (graphPlace k marksPlace) 0 in cond (covered (graphFrom w) k) (marksWord noLeaf (earlyIn x)) x
 
 mark-is : (w : List ℕ) → graphFits w ≡ true → (k : ℕ) → k < getD w 0 0
-    → mark w k ≡ Option·getD (acceptOf (withCleared (graphFrom w)) k) 255 + 256 * Option·getD (earlyOf (withCleared (graphFrom w)) k) 255
+    → mark w k ≡ marksWord (Option·getD (acceptOf (withCleared (graphFrom w)) k) noLeaf) (Option·getD (earlyOf (withCleared (graphFrom w)) k) noLeaf)
 unfolding acceptOf cleared
 mark-is w taken k h = go (is (covered g k))
   where
@@ -35,17 +36,17 @@ mark-is w taken k h = go (is (covered g k))
     g = graphFrom w
 
     x : ℕ
-    x = getD w (2 + 258 * k + 257) 0
+    x = getD w (graphPlace k marksPlace) 0
 
-    accept : (b : Bool) → covered g k ≡ b → Option·getD (acceptOf (withCleared g) k) 255 ≡ Option·getD (cond b none (acceptOf g k)) 255
+    accept : (b : Bool) → covered g k ≡ b → Option·getD (acceptOf (withCleared g) k) noLeaf ≡ Option·getD (cond b none (acceptOf g k)) noLeaf
     accept b e =
-        ap (λ (s : State). Option·getD (s .accept) 255) (cleared-state g k (rw (from-length w) h))
-        ∙ ap (λ (b : Bool). Option·getD (cond b none (acceptOf g k)) 255) e
+        ap (λ (s : State). Option·getD (s .accept) noLeaf) (cleared-state g k (rw (from-length w) h))
+        ∙ ap (λ (b : Bool). Option·getD (cond b none (acceptOf g k)) noLeaf) e
 
-    early : Option·getD (earlyOf (withCleared g) k) 255 ≡ x / 256
-    early = ap (λ (o : Option ℕ). Option·getD o 255) (cleared-early g k) ∙ early-is w taken k h
+    early : Option·getD (earlyOf (withCleared g) k) noLeaf ≡ earlyIn x
+    early = ap (λ (o : Option ℕ). Option·getD o noLeaf) (cleared-early g k) ∙ early-is w taken k h
 
-    go : Is (covered g k) → mark w k ≡ Option·getD (acceptOf (withCleared g) k) 255 + 256 * Option·getD (earlyOf (withCleared g) k) 255
+    go : Is (covered g k) → mark w k ≡ marksWord (Option·getD (acceptOf (withCleared g) k) noLeaf) (Option·getD (earlyOf (withCleared g) k) noLeaf)
     go (yes-is q) = let a = accept true q in let b = early in rw q (omega arith)
     go (no-is q) = let a = accept false q ∙ accept-is w taken k h in let b = early in rw q (omega arith)
 
@@ -133,7 +134,7 @@ loop-again c =
     let w = w₀ p in
     let m = l .inv .1 in
     let e = count p in
-    let x = getD w (2 + 258 * l .s + 257) 0 in
+    let x = getD w (graphPlace (l .s) marksPlace) 0 in
     let to : (v : List ℕ) → c .if1 .graph ≡ v → Marked w (mark w) (l .s + 1) v → Marked w (mark w) (l .s + 1) (c .if1 .graph) =
     λ v q y. subst (Marked w (mark w) (l .s + 1)) (sym q) y in (
       omega arith,
@@ -142,13 +143,13 @@ loop-again c =
           let off : covered (graphFrom w) (l .s) ≡ true = not-false _ (sym (flag t) ∙ not-true _ (v .0 .taken)) in
           let early = v .2 .ensures .0 ∙ early-is (l .graph) (fits t .0) (l .s) (fits t .1) in
           let here = marked-later w (St p .pre) (mark w) (l .s) (l .graph) m (l .s) (omega arith) in
-          let word : 255 + 256 * (x / 256) ≡ 255 + 256 * v .2 .result = omega arith in
+          let word : marksWord noLeaf (earlyIn x) ≡ marksWord noLeaf (v .2 .result) = omega arith in
           to _ (v .4)
-          (subst₂ (λ (i y : ℕ). Marked w (mark w) (l .s + 1) (set (l .graph) i y)) (sym (v .3 .ensures)) (ap (λ (b : Bool). cond b (255 + 256 * (x / 256)) x) off ∙ word)
+          (subst₂ (λ (i y : ℕ). Marked w (mark w) (l .s + 1) (set (l .graph) i y)) (sym (v .3 .ensures)) (ap (λ (b : Bool). cond b (marksWord noLeaf (earlyIn x)) x) off ∙ word)
           (marked-more w (mark w) (l .s) (l .graph) (omega (arith, taken-long w (St p .pre))) m)))
           (λ v.
           let on : covered (graphFrom w) (l .s) ≡ false = not-true _ (sym (flag t) ∙ not-false _ (v .0 .left)) in
-          to _ (v .1) (marked-keep w (mark w) (l .s) (l .graph) (ap (λ (b : Bool). cond b (255 + 256 * (x / 256)) x) (sym on)) m))
+          to _ (v .1) (marked-keep w (mark w) (l .s) (l .graph) (ap (λ (b : Bool). cond b (marksWord noLeaf (earlyIn x)) x) (sym on)) m))
           (c .if1 .came),
     )
 
@@ -165,7 +166,7 @@ returns c =
     let e = count p in
     let small : (i : ℕ) → getD w i 0 < 65536 = λ i. omega (arith, p .before .before .before .before .before .slice-known .given i) in (
       marked-all w taken (mark w) (l .s) (l .graph) (l .inv .1) (omega arith) (withCleared (graphFrom w))
-          (cleared-fits 255 (getD w 0 0) (graphFrom w) (taken-fits w taken small)) (cleared-length (graphFrom w) ∙ from-length w) refl (cleared-to (graphFrom w))
+          (cleared-fits noLeaf (getD w 0 0) (graphFrom w) (taken-fits w taken small)) (cleared-length (graphFrom w) ∙ from-length w) refl (cleared-to (graphFrom w))
           (mark-is w taken),
       marked-fits w taken (mark w) (l .s) (l .graph) (l .inv .1),
     )

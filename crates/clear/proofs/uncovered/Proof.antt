@@ -17,12 +17,13 @@ use Rattle.words.proofs.GraphWords.{from-edge, edge-none, edge-some, leaves-agr
 use Rattle.clear.proofs.Parents.{Passed, passed-none, passed-skip, passed-mark, passed-row, passed-all}
 use Rattle.clear.proofs.uncovered.Statement.{statement}
 use Rattle.clear.proofs.uncovered.Tie as tie
+use Rattle.graph_rules.specs.Layout.{stepCount, noState}
 
 abbrev Inv-loop2 : tie.InvT-loop2
-Inv-loop2 graph n out₀ p early c₀ out c = (c ≤ 257) × Passed (graphFrom graph) p c out
+Inv-loop2 graph n out₀ p early c₀ out c = (c ≤ stepCount) × Passed (graphFrom graph) p c out
 
 abbrev μ-loop2 : tie.MeasureT-loop2
-μ-loop2 graph n out₀ p early c₀ out c = 257 - c
+μ-loop2 graph n out₀ p early c₀ out c = stepCount - c
 
 abbrev Inv-loop : tie.InvT-loop
 Inv-loop graph n out₀ p₀ out p = (p ≤ n) × Passed (graphFrom graph) p 0 out
@@ -50,10 +51,10 @@ module _ (c : tie.After-target Inv-loop2 μ-loop2 Inv-loop μ-loop) where
   abbrev edge : ℕ
   edge = c .before .before .loop2 .c
 
-  leads : (u ≡ 65535 → ⊥) → (to (g at) (at .loop .p) edge ≡ some u) × (u < getD (St at .args .graph .now) 0 0)
+  leads : (u ≡ noState → ⊥) → (to (g at) (at .loop .p) edge ≡ some u) × (u < getD (St at .args .graph .now) 0 0)
   leads = edge-some (St at .args .graph .now) (St at .pre) (at .loop .p) edge u (c .target .ensures)
 
-  ends : u ≡ 65535 → to (g at) (at .loop .p) edge ≡ none
+  ends : u ≡ noState → to (g at) (at .loop .p) edge ≡ none
   ends = edge-none (St at .args .graph .now) (St at .pre) (at .loop .p) edge u (c .target .ensures)
 
 word-requires : tie.Need-word-requires Inv-loop2 μ-loop2 Inv-loop μ-loop

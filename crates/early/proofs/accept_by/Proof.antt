@@ -9,6 +9,7 @@ use Rattle.graph_rules.specs.Build.{acceptBy}
 use Rattle.words.proofs.GraphWords.{edge-none, edge-some}
 use Rattle.early.proofs.accept_by.Statement.{statement}
 use Rattle.early.proofs.accept_by.Tie as tie
+use Rattle.graph_rules.specs.Layout.{noLeaf}
 
 target-requires : tie.Need-target-requires
 target-requires c κs = search needs
@@ -18,7 +19,7 @@ returns c =
     let t = c .before .target in
     let a = c .before .before .before in
     let w = a .args .graph .now in
-    (ap (λ (o : Option ℕ). Option·getD (acceptBy (graphFrom w) o) 255) (sym (edge-none w (a .pre .0) (a .args .s) (a .args .c) (t .result) (t .ensures) (c .if1 .taken))), omega arith)
+    (ap (λ (o : Option ℕ). Option·getD (acceptBy (graphFrom w) o) noLeaf) (sym (edge-none w (a .pre .0) (a .args .s) (a .args .c) (t .result) (t .ensures) (c .if1 .taken))), omega arith)
 
 accept-of-requires : tie.Need-accept-of-requires
 accept-of-requires c κs =
@@ -32,7 +33,7 @@ returns-2 c =
     let a = c .before .before .before .before in
     let w = a .args .graph .now in (
       c .accept-of .ensures .0
-          ∙ ap (λ (o : Option ℕ). Option·getD (acceptBy (graphFrom w) o) 255)
+          ∙ ap (λ (o : Option ℕ). Option·getD (acceptBy (graphFrom w) o) noLeaf)
           (sym (edge-some w (a .pre .0) (a .args .s) (a .args .c) (t .result) (t .ensures) (c .before .if1 .left) .0)),
       c .accept-of .ensures .1,
     )

@@ -7,6 +7,7 @@ use Rattle.words.proofs.GraphWords.{edge-none, edge-some}
 use Rattle.early.proofs.Children.{leafBy, byte-differs, end-differs, bytes-agree, all-agree}
 use Rattle.early.proofs.agreed_leaf.Statement.{statement}
 use Rattle.early.proofs.agreed_leaf.Tie as tie
+use Rattle.graph_rules.specs.Layout.{endStep}
 
 abbrev Inv-loop : tie.InvT-loop
 Inv-loop graph s leaf b₀ b = (b ≤ 256) × ((i : ℕ) → i < b → leafBy graph s i ≡ leaf)
@@ -63,7 +64,7 @@ returns-2 c =
     let p = c .before .before .before .before .before in
     let a = St p in
     let w = a .args .graph .now in
-    let (e, l) = edge-some w (a .pre .0) (a .args .s) 256 (t .result) (t .ensures) (c .before .before .if2 .taken) in
+    let (e, l) = edge-some w (a .pre .0) (a .args .s) endStep (t .result) (t .ensures) (c .before .before .if2 .taken) in
     (end-differs w (a .pre .0) (a .args .s) (a .pre .1) (t .result) e (λ q. c .if3 .taken (c .before .accept-by3 .ensures .0 ∙ q ∙ sym (first p))), omega arith)
 
 returns-3 : tie.Need-returns-3 Inv-loop μ-loop
@@ -72,8 +73,8 @@ returns-3 c =
     let p = c .before .before .before .before .before in
     let a = St p in
     let w = a .args .graph .now in
-    let (e, l) = edge-some w (a .pre .0) (a .args .s) 256 (t .result) (t .ensures) (c .before .before .if2 .taken) in
-    let all = below-more (λ i. leafBy w (a .args .s) i ≡ leafBy w (a .args .s) 0) 256 (λ i h. p .loop .inv .1 i (omega arith) ∙ first p)
+    let (e, l) = edge-some w (a .pre .0) (a .args .s) endStep (t .result) (t .ensures) (c .before .before .if2 .taken) in
+    let all = below-more (λ i. leafBy w (a .args .s) i ≡ leafBy w (a .args .s) 0) endStep (λ i h. p .loop .inv .1 i (omega arith) ∙ first p)
     (sym (c .before .accept-by3 .ensures .0) ∙ c .if3 .left ∙ first p) in
     (first p ∙ all-agree w (a .pre .0) (a .args .s) (a .pre .1) (t .result) e all, p .before .accept-by .ensures .1)
 
@@ -83,7 +84,7 @@ returns-4 c =
     let p = c .before .before .before in
     let a = St p in
     let w = a .args .graph .now in (
-      first p ∙ bytes-agree w (a .pre .0) (a .args .s) (a .pre .1) (edge-none w (a .pre .0) (a .args .s) 256 (t .result) (t .ensures) (c .if2 .left))
+      first p ∙ bytes-agree w (a .pre .0) (a .args .s) (a .pre .1) (edge-none w (a .pre .0) (a .args .s) endStep (t .result) (t .ensures) (c .if2 .left))
           (λ i h. p .loop .inv .1 i (omega arith) ∙ first p),
       p .before .accept-by .ensures .1,
     )

@@ -20,17 +20,18 @@ use Rattle.early.proofs.Children.{earlyLeaf, early-alike}
 use Rattle.words.proofs.Marking.{Marked, marked-none, marked-more, marked-count, marked-target, marked-later, marked-fits, marked-all}
 use Rattle.early.proofs.early.Statement.{statement}
 use Rattle.early.proofs.early.Tie as tie
+use Rattle.graph_rules.specs.Layout.{marksPlace, graphPlace, noLeaf, marksWord, acceptIn}
 
 -- the marks word with the early leaf
 abbrev mark : List ℕ → ℕ → ℕ
-mark w k = getD w (2 + 258 * k + 257) 0 % 256 + 256 * earlyLeaf w k
+mark w k = marksWord (acceptIn (getD w (graphPlace k marksPlace) 0)) (earlyLeaf w k)
 
 -- in the midst of the pass the accepts, and so the early leaves, are those of the beginning
 still : (w₀ : List ℕ) → graphFits w₀ ≡ true → (s : ℕ) (w : List ℕ) → Marked w₀ (mark w₀) s w → s < getD w₀ 0 0 → earlyLeaf w s ≡ earlyLeaf w₀ s
 still w₀ taken s w m h =
     early-alike w w₀ (marked-fits w₀ taken (mark w₀) s w m) taken (marked-count w₀ taken (mark w₀) s w m) (marked-target w₀ taken (mark w₀) s w m) accepts s h
   where
-    accepts : (k : ℕ) → getD w (2 + 258 * k + 257) 0 % 256 ≡ getD w₀ (2 + 258 * k + 257) 0 % 256
+    accepts : (k : ℕ) → acceptIn (getD w (graphPlace k marksPlace) 0) ≡ acceptIn (getD w₀ (graphPlace k marksPlace) 0)
     accepts k =
         ⊎-elim
         (λ l. let e = m .done k l in omega arith)
@@ -111,7 +112,7 @@ loop-again c =
     let accept = c .before .accept-of .ensures .0 ∙ accept-is (l .graph) (fits t .0) (l .s) (fits t .1) in
     let here = marked-later (w₀ p) taken (mark (w₀ p)) (l .s) (l .graph) m (l .s) (omega arith) in
     let leaf = c .before .before .before .agreed-leaf .ensures .0 ∙ still (w₀ p) taken (l .s) (l .graph) m h in
-    let word : mark (w₀ p) (l .s) ≡ c .before .accept-of .result + 256 * c .before .before .before .agreed-leaf .result = omega arith in (
+    let word : mark (w₀ p) (l .s) ≡ marksWord (c .before .accept-of .result) (c .before .before .before .agreed-leaf .result) = omega arith in (
       omega arith,
       subst₂ (λ (i x : ℕ). Marked (w₀ p) (mark (w₀ p)) (l .s + 1) (set (l .graph) i x)) (sym (c .place .ensures)) word
           (marked-more (w₀ p) (mark (w₀ p)) (l .s) (l .graph) (omega (arith, taken-long (w₀ p) taken)) m),
@@ -130,8 +131,8 @@ returns c =
     let e = p .before .word .ensures .0 in
     let small : (i : ℕ) → getD w i 0 < 65536 = λ i. omega (arith, p .before .before .before .slice-known .given i) in (
       marked-all w taken (mark w) (l .s) (l .graph) (l .inv .1) (omega arith) (withEarly (graphFrom w))
-          (early-fits 255 (getD w 0 0) (graphFrom w) (taken-fits w taken small)) (early-length (graphFrom w) ∙ from-length w) refl (early-to (graphFrom w))
-          (λ k h. let a = ap (λ (o : Option ℕ). Option·getD o 255) (early-accept (graphFrom w) k) ∙ accept-is w taken k h in omega arith),
+          (early-fits noLeaf (getD w 0 0) (graphFrom w) (taken-fits w taken small)) (early-length (graphFrom w) ∙ from-length w) refl (early-to (graphFrom w))
+          (λ k h. let a = ap (λ (o : Option ℕ). Option·getD o noLeaf) (early-accept (graphFrom w) k) ∙ accept-is w taken k h in omega arith),
       marked-fits w taken (mark w) (l .s) (l .graph) (l .inv .1),
     )
 

@@ -9,6 +9,7 @@ use Rattle.graph_rules.proofs.Taken.{taken-long, taken-few}
 use Rattle.edges.proofs.Rows.{Filling, fill-more, filled}
 use Rattle.edges.proofs.class_to.Statement.{statement}
 use Rattle.edges.proofs.class_to.Tie as tie
+use Rattle.graph_rules.specs.Layout.{mostStates}
 
 abbrev Inv-loop : tie.InvT-loop
 Inv-loop graph s u class₀ b₀ class b = Filling (classTo (stateOf (graphFrom graph) s) u) class b
@@ -30,7 +31,7 @@ array-write-class c = omega arith
 add-b : tie.Need-add-b Inv-loop μ-loop
 add-b c = omega arith
 
-few : (s : tie.Start Inv-loop μ-loop) → s .args .u < 1024
+few : (s : tie.Start Inv-loop μ-loop) → s .args .u < mostStates
 few s = omega (arith, s .pre .1 .1, taken-few (s .args .graph .now) (s .pre .0))
 
 loop-less : tie.Need-loop-less Inv-loop μ-loop

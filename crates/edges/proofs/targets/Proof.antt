@@ -10,6 +10,7 @@ use Rattle.edges.specs.Edges.{bytesOf}
 use Rattle.edges.proofs.Rows.{Marking, mark-more, mark-none, marked-all}
 use Rattle.edges.proofs.targets.Statement.{statement}
 use Rattle.edges.proofs.targets.Tie as tie
+use Rattle.graph_rules.specs.Layout.{mostStates}
 
 abbrev Inv-loop : tie.InvT-loop
 Inv-loop graph s found₀ b₀ found b = Marking (bytesOf (stateOf (graphFrom graph) s)) found b
@@ -22,7 +23,7 @@ loop-holds c =
     record {
       within = omega arith;
       room = refl;
-      marked = λ u k. getD-replicate 1024 u false false k;
+      marked = λ u k. getD-replicate mostStates u false false k;
     }
 
 word-requires : tie.Need-word-requires Inv-loop μ-loop

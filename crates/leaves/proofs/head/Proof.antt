@@ -4,7 +4,7 @@ use Prim.Native.Nat.{ℕ}
 use native.Mathlib.Omega.{arith}
 use lib.ListN.{getD}
 use Rattle.graph_rules.proofs.Flat.{head-word}
-use Rattle.words.specs.Places.{rowPlace}
+use Rattle.graph_rules.specs.Layout.{headPlace, rowPlace}
 use Rattle.leaves.proofs.Records.{sizes, head-below}
 use Rattle.leaves.proofs.head.Statement.{statement}
 use Rattle.leaves.proofs.head.Tie as tie
@@ -21,7 +21,7 @@ returns c =
     let w = at .args .table .now in
     let s = at .args .s in
     let e = c .row-word .ensures .0
-    ∙ ap (λ (m : ℕ). getD w (rowPlace m s 257) 0) (c .before .leaves .ensures .0)
+    ∙ ap (λ (m : ℕ). getD w (rowPlace m s headPlace) 0) (c .before .leaves .ensures .0)
     ∙ sym (head-word w s (at .pre .1)) in
     let l = head-below w (at .pre .0) s in
     (e, omega arith)

@@ -9,6 +9,7 @@ use Rattle.leaves.proofs.Contenders.{leaf-none, leaf-one, leaf-tied}
 use borrow.Author.Needs.{needs}
 use Rattle.leaves.proofs.leaf_of.Statement.{statement}
 use Rattle.leaves.proofs.leaf_of.Tie as tie
+use Rattle.graph_rules.specs.Layout.{noLeaf}
 
 top-requires : tie.Need-top-requires
 top-requires c κs = search needs
@@ -17,7 +18,7 @@ returns : tie.Need-returns
 returns c =
     let at = c .before .before .before in
     let e = c .before .top .ensures .0 in
-    sym (ap (λ (o : Option ℕ). Option·getD o 255) (leaf-none (at .args .table .now) (at .pre .0) (at .args .s) (sym e ∙ c .if1 .taken)))
+    sym (ap (λ (o : Option ℕ). Option·getD o noLeaf) (leaf-none (at .args .table .now) (at .pre .0) (at .args .s) (sym e ∙ c .if1 .taken)))
 
 next-tied-requires : tie.Need-next-tied-requires
 next-tied-requires c κs = search needs
@@ -28,7 +29,7 @@ returns-2 c =
     let w = at .args .table .now in
     let e = c .before .before .before .top .ensures .0 in
     let n = c .before .next-tied .ensures .0 ∙ ap (nextTied (tableOf w)) e in
-    sym (ap (λ (o : Option ℕ). Option·getD o 255) (leaf-tied w (at .pre .0) (at .args .s) (omega arith) (omega arith)))
+    sym (ap (λ (o : Option ℕ). Option·getD o noLeaf) (leaf-tied w (at .pre .0) (at .args .s) (omega arith) (omega arith)))
 
 match-leaf-requires : tie.Need-match-leaf-requires
 match-leaf-requires c κs = search needs
@@ -43,7 +44,7 @@ returns-3 c =
     let n = ap (nextTied t) (sym e) ∙ sym (c .before .before .next-tied .ensures .0) ∙ z in
     c .match-leaf .ensures .0
     ∙ ap (λ (i : ℕ). matchOf t i .leaf) e
-    ∙ sym (ap (λ (o : Option ℕ). Option·getD o 255) (leaf-one w (at .pre .0) (at .args .s) (omega arith) n))
+    ∙ sym (ap (λ (o : Option ℕ). Option·getD o noLeaf) (leaf-one w (at .pre .0) (at .args .s) (omega arith) n))
 
 pub leaf-of-spec : {M : Type 1} → statement M
 leaf-of-spec =

@@ -3,7 +3,7 @@ use mathlib.Core.Path.{ap₂, _∙_}
 use Prim.Native.Nat.{ℕ}
 use native.Mathlib.Omega.{arith}
 use lib.ListN.{getD}
-use Rattle.words.specs.Places.{matchPlace}
+use Rattle.graph_rules.specs.Layout.{matchPlace}
 use Rattle.leaves.proofs.Records.{sizes}
 use Rattle.leaves.proofs.record_word.Statement.{statement}
 use Rattle.leaves.proofs.record_word.Tie as tie

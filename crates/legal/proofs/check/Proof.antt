@@ -9,7 +9,7 @@ use borrow.Author.Tests.{le-leb, lt-leb, le-ltb, eq-eqb, ne-eqb, not-true, not-f
 use lib.ListN.{length, getD}
 use Rattle.lists.proofs.Bools.{and-right-false, and-intro}
 use Rattle.graph_rules.specs.Table.{conditions, countsFit, emptiesFit, targetsFit, headsFit, recordsFit}
-use Rattle.words.specs.Places.{tableLength}
+use Rattle.graph_rules.specs.Layout.{noState, tableLength}
 use Rattle.legal.specs.Conditions.{states, leaves, records, Sized}
 use Rattle.legal.proofs.Legal.{Passed, passed-none, passed-more, refused, passed-all, counts-are, sized-means, start-pass}
 use borrow.Author.Needs.{needs}
@@ -110,7 +110,7 @@ returns-4 c =
     let d = c .before .before .before in
     let w = sizedWords d in
     sym (refused w 3 (omega arith) (length-passed d)
-    (simp (le-ltb (getD w 1 0) (states w) (omega arith), ne-eqb (getD w 1 0) 65535 (λ e. c .if5 .taken (c .before .before .start .ensures .0 ∙ e)))))
+    (simp (le-ltb (getD w 1 0) (states w) (omega arith), ne-eqb (getD w 1 0) noState (λ e. c .if5 .taken (c .before .before .start .ensures .0 ∙ e)))))
 
 empties-fit-requires : tie.Need-empties-fit-requires
 empties-fit-requires c κs = sized c

@@ -4,7 +4,7 @@ use Prim.Native.Nat.{ℕ, _≤_, _<_, _-_}
 use native.Mathlib.Omega.{arith}
 use borrow.Author.Count.{below-more}
 use lib.ListN.{getD}
-use Rattle.words.specs.Places.{rowPlace}
+use Rattle.graph_rules.specs.Layout.{headPlace, rowPlace}
 use Rattle.lists.proofs.Judged.{judged-false}
 use Rattle.legal.specs.Conditions.{records, headWord}
 use Rattle.legal.proofs.Judging.{heads-judged}
@@ -23,7 +23,7 @@ head-is : (c : tie.After-row-word Inv-loop μ-loop)
 head-is c =
     let at = c .before .before in
     let w = at .before .before .before .before .before .args .table .now in
-    c .row-word .ensures .0 ∙ ap (λ (m : ℕ). getD w (rowPlace m (at .loop .s) 257) 0) (at .before .before .leaves .ensures .0)
+    c .row-word .ensures .0 ∙ ap (λ (m : ℕ). getD w (rowPlace m (at .loop .s) headPlace) 0) (at .before .before .leaves .ensures .0)
 
 states-requires : tie.Need-states-requires Inv-loop μ-loop
 states-requires c κs = omega arith

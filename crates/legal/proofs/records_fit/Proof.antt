@@ -6,7 +6,7 @@ use Prim.Native.Nat.{ℕ, _+_, _≤_, _<_, _-_}
 use native.Mathlib.Omega.{arith}
 use borrow.Author.Count.{below-more}
 use lib.ListN.{getD}
-use Rattle.words.specs.Places.{matchPlace}
+use Rattle.graph_rules.specs.Layout.{matchPlace}
 use Rattle.legal.specs.Conditions.{states, leaves, leafWord, nextWord, RecordFits}
 use Rattle.legal.proofs.Judging.{records-all, records-false}
 use Rattle.legal.proofs.records_fit.Statement.{statement}

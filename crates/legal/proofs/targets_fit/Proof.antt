@@ -4,7 +4,7 @@ use Prim.Native.Nat.{ℕ, _≤_, _<_, _-_}
 use native.Mathlib.Omega.{arith}
 use borrow.Author.Count.{below-none, below-more}
 use lib.ListN.{getD}
-use Rattle.words.specs.Places.{rowPlace}
+use Rattle.graph_rules.specs.Layout.{stepCount, rowPlace}
 use Rattle.lists.proofs.Judged.{judged-false}
 use Rattle.legal.specs.Conditions.{states, targetWord}
 use Rattle.legal.proofs.Judging.{targets-judged}
@@ -12,13 +12,13 @@ use Rattle.legal.proofs.targets_fit.Statement.{statement}
 use Rattle.legal.proofs.targets_fit.Tie as tie
 
 abbrev Inv-loop2 : tie.InvT-loop2
-Inv-loop2 table n m s c₀ c = (c ≤ 257) × ((k : ℕ) → k < c → targetWord table s k < states table)
+Inv-loop2 table n m s c₀ c = (c ≤ stepCount) × ((k : ℕ) → k < c → targetWord table s k < states table)
 
 abbrev μ-loop2 : tie.MeasureT-loop2
-μ-loop2 table n m s c₀ c = 257 - c
+μ-loop2 table n m s c₀ c = stepCount - c
 
 abbrev Inv-loop : tie.InvT-loop
-Inv-loop table n m s₀ s = (s ≤ n) × ((k : ℕ) → k < s → (j : ℕ) → j < 257 → targetWord table k j < states table)
+Inv-loop table n m s₀ s = (s ≤ n) × ((k : ℕ) → k < s → (j : ℕ) → j < stepCount → targetWord table k j < states table)
 
 abbrev μ-loop : tie.MeasureT-loop
 μ-loop table n m s₀ s = n - s

@@ -14,13 +14,14 @@ use Rattle.graph_rules.proofs.Taken.{taken-few}
 use Rattle.merge.proofs.Twins.{words-equal, equal-words}
 use Rattle.merge.proofs.first_equal.Statement.{statement}
 use Rattle.merge.proofs.first_equal.Tie as tie
+use Rattle.graph_rules.specs.Layout.{stepCount, rowWords, marksPlace, graphPlace}
 
 abbrev Inv-loop : tie.InvT-loop
 Inv-loop graph stay s marks e₀ c₀ e c =
-    (e ≡ e₀) × (c ≤ 257) × ((d : ℕ) → d < c → getD graph (2 + 258 * e + d) 0 ≡ getD graph (2 + 258 * s + d) 0)
+    (e ≡ e₀) × (c ≤ stepCount) × ((d : ℕ) → d < c → getD graph (graphPlace e d) 0 ≡ getD graph (graphPlace s d) 0)
 
 abbrev μ-loop : tie.MeasureT-loop
-μ-loop graph stay s marks e₀ c₀ e c = 257 - c
+μ-loop graph stay s marks e₀ c₀ e c = stepCount - c
 
 abbrev Inv-states : tie.InvT-states
 Inv-states graph stay s marks e₀ e =
@@ -36,8 +37,8 @@ abbrev w : tie.At-states Inv-loop μ-loop Inv-states μ-states → List ℕ
 w c = St c .args .graph .now
 
 -- a state whose words differ from those of s somewhere
-unlike : (p : tie.At-states Inv-loop μ-loop Inv-states μ-states) (e c : ℕ) → e < St p .args .s → c < 258
-    → (getD (w p) (2 + 258 * e + c) 0 ≡ getD (w p) (2 + 258 * St p .args .s + c) 0 → ⊥) → stateOf (graphFrom (w p)) e ≡ stateOf (graphFrom (w p)) (St p .args .s) → ⊥
+unlike : (p : tie.At-states Inv-loop μ-loop Inv-states μ-states) (e c : ℕ) → e < St p .args .s → c < rowWords
+    → (getD (w p) (graphPlace e c) 0 ≡ getD (w p) (graphPlace (St p .args .s) c) 0 → ⊥) → stateOf (graphFrom (w p)) e ≡ stateOf (graphFrom (w p)) (St p .args .s) → ⊥
 unlike p e c h b n q = let a = St p in n (equal-words (w p) (a .pre .0) e (a .args .s) (let z = a .pre .1 .0 in omega arith) (a .pre .1 .0) q c b)
 
 -- the turn of the outer loop in which the words are compared
@@ -81,7 +82,7 @@ states-again c =
       below-more _ (l .e) (l .inv .1)
           (⊎-elim
           (λ v q. let (f, b, x) = a .pre .1 .1 (l .e) h (not-true _ (v .taken)) in l .inv .1 f b (x ∙ q))
-          (λ v. unlike p (l .e) 257 h (omega arith) (λ q. eqb-false _ _ (not-true _ (v .2 .taken)) (v .1 .ensures .0 ∙ q ∙ sym (p .before .word-of .ensures .0))))
+          (λ v. unlike p (l .e) marksPlace h (omega arith) (λ q. eqb-false _ _ (not-true _ (v .2 .taken)) (v .1 .ensures .0 ∙ q ∙ sym (p .before .word-of .ensures .0))))
           (c .if1 .came)),
     )
 
@@ -132,11 +133,11 @@ returns c =
     let e = m .loop .inv .0 in
     let h = inside m in
     let y = a .pre .1 .0 in
-    let marks : getD (w p) (2 + 258 * m .loop .e + 257) 0 ≡ getD (w p) (2 + 258 * a .args .s + 257) 0 =
-    ap (λ (x : ℕ). getD (w p) (2 + 258 * x + 257) 0) e ∙ sym (m .before .before .word-of2 .ensures .0) ∙ eqb-true _ _ (not-false _ (m .before .if2 .left)) ∙ p .before .word-of .ensures .0 in
+    let marks : getD (w p) (graphPlace (m .loop .e) marksPlace) 0 ≡ getD (w p) (graphPlace (a .args .s) marksPlace) 0 =
+    ap (λ (x : ℕ). getD (w p) (graphPlace x marksPlace) 0) e ∙ sym (m .before .before .word-of2 .ensures .0) ∙ eqb-true _ _ (not-false _ (m .before .if2 .left)) ∙ p .before .word-of .ensures .0 in
     record {
       within = omega arith;
-      equal = words-equal (w p) (a .pre .0) (m .loop .e) (a .args .s) (omega arith) y (below-more _ 257 (λ d b. m .loop .inv .2 d (omega arith)) marks);
+      equal = words-equal (w p) (a .pre .0) (m .loop .e) (a .args .s) (omega arith) y (below-more _ marksPlace (λ d b. m .loop .inv .2 d (omega arith)) marks);
       before = λ j b. p .states .inv .1 j (omega arith);
     }
 

@@ -13,6 +13,7 @@ use Rattle.graph_rules.proofs.Taken.{taken-few}
 use Rattle.merge.proofs.Rounds.{Merging, merging-none, merging-done, merging-less, merging-more}
 use Rattle.merge.proofs.merge.Statement.{statement}
 use Rattle.merge.proofs.merge.Tie as tie
+use Rattle.graph_rules.specs.Layout.{mostStates, graphSize}
 
 abbrev Inv-loop : tie.InvT-loop
 Inv-loop graph₀ graph = Merging graph₀ graph
@@ -26,7 +27,7 @@ St c = c .before .before
 abbrev w₀ : tie.At-loop Inv-loop μ-loop → List ℕ
 w₀ c = St c .args .graph .now
 
-few : (c : tie.At-loop Inv-loop μ-loop) → getD (w₀ c) 0 0 ≤ 1024
+few : (c : tie.At-loop Inv-loop μ-loop) → getD (w₀ c) 0 0 ≤ mostStates
 few c = taken-few (w₀ c) (St c .pre)
 
 -- what the round has made of the words
@@ -38,7 +39,7 @@ module _ (c : tie.After-merge-round Inv-loop μ-loop) where
   w = at .loop .graph
 
   abbrev round : List ℕ
-  round = graphBuffer (getD w 0 0) (mergeRound (graphFrom w)) ++ drop (2 + 258 * getD w 0 0) w
+  round = graphBuffer (getD w 0 0) (mergeRound (graphFrom w)) ++ drop (graphSize (getD w 0 0)) w
 
   merged-some : c .merge-round .result ≡ true → mergesNone (graphFrom w) ≡ false
   merged-some e = not-true _ (sym (c .merge-round .ensures .0) ∙ e)

@@ -17,6 +17,7 @@ use Rattle.merge.specs.Equals.{Lowest}
 use Rattle.merge.proofs.Grouping.{Grouped, grouped-none, grouped-low, grouped-new, grouped-met, grouped-count, round-is, grouped-fitting}
 use Rattle.merge.proofs.merge_round.Statement.{statement}
 use Rattle.merge.proofs.merge_round.Tie as tie
+use Rattle.graph_rules.specs.Layout.{mostStates, graphSize}
 
 abbrev Inv-loop : tie.InvT-loop
 Inv-loop graph n names₀ stay₀ k₀ next₀ names stay k next = (next ≤ n) × Grouped (graphFrom graph) next k names stay
@@ -33,7 +34,7 @@ w c = St c .args .graph .now
 abbrev g : tie.At-loop Inv-loop μ-loop → Graph
 g c = graphFrom (w c)
 
-size : (c : tie.At-loop Inv-loop μ-loop) → (c .before .word .result ≡ length (g c .states)) × (c .before .word .result ≤ 1024) × (c .before .word .result ≡ getD (w c) 0 0)
+size : (c : tie.At-loop Inv-loop μ-loop) → (c .before .word .result ≡ length (g c .states)) × (c .before .word .result ≤ mostStates) × (c .before .word .result ≡ getD (w c) 0 0)
 size c =
     let a = c .before .word .ensures .0 in
     let b = from-length (w c) in
@@ -43,7 +44,7 @@ size c =
 -- ---- a turn
 
 module _ (c : tie.In-loop Inv-loop μ-loop) where
-  inside : (c .before .loop .next < length (g (c .before) .states)) × (c .before .loop .next < 1024)
+  inside : (c .before .loop .next < length (g (c .before) .states)) × (c .before .loop .next < mostStates)
   inside = let e = size (c .before) in (omega arith, omega arith)
 
   low : c .before .loop .k ≤ c .before .loop .next
@@ -154,7 +155,7 @@ returns : tie.Need-returns Inv-loop μ-loop
 returns c =
     let p = c .before .before in
     let b = merges-none (c .before) (c .if2 .taken) in
-    (ap not (sym b), (ap (λ (x : Bool). cond x (w p) (graphBuffer (getD (w p) 0 0) (mergeRound (g p)) ++ drop (2 + 258 * getD (w p) 0 0) (w p))) (sym b), St p .pre))
+    (ap not (sym b), (ap (λ (x : Bool). cond x (w p) (graphBuffer (getD (w p) 0 0) (mergeRound (g p)) ++ drop (graphSize (getD (w p) 0 0)) (w p))) (sym b), St p .pre))
 
 relabel-requires : tie.Need-relabel-requires Inv-loop μ-loop
 relabel-requires c κs =
@@ -172,7 +173,7 @@ returns-2 c =
     let d = e .before in
     let p = d .before in
     let b = merges d (e .if2 .left) in
-    let buffer : Graph → List ℕ = λ x. graphBuffer (getD (w p) 0 0) x ++ drop (2 + 258 * getD (w p) 0 0) (w p) in (
+    let buffer : Graph → List ℕ = λ x. graphBuffer (getD (w p) 0 0) x ++ drop (graphSize (getD (w p) 0 0)) (w p) in (
       ap not (sym b),
       (
         r .ensures .0 ∙ ap buffer (round-is (g p) (p .loop .k) (p .loop .names) (p .loop .stay) (finished d)) ∙ ap (λ (x : Bool). cond x (w p) (buffer (mergeRound (g p)))) (sym b),

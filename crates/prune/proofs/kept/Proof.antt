@@ -9,7 +9,7 @@ use native.Mathlib.Omega.{arith}
 use borrow.Author.Tests.{not-true, not-false}
 use lib.ListN.{length, getD, replicate}
 use Rattle.lists.specs.Sets.{count}
-use Rattle.lists.proofs.Closure.{count-length}
+use Rattle.lists.proofs.Counting.{count-length}
 use Rattle.graph_rules.specs.Graph.{Graph, stateOf, leads, graphFrom}
 use Rattle.graph_rules.specs.Build.{kept}
 use Rattle.graph_rules.proofs.Taken.{taken-few, taken-long}
@@ -19,6 +19,7 @@ use Rattle.prune.proofs.Backward.{seed, Search, search-done, found-none
 use Rattle.prune.proofs.Looking.{SeedsIn, Seeded, seeded-none, seeded-room, seeded-more, seeded-skip, Looked, stack-low, taken-below, looked-none, looked-room, looked-byte, looked-skip, looked-more, looked-all}
 use Rattle.prune.proofs.kept.Statement.{statement}
 use Rattle.prune.proofs.kept.Tie as tie
+use Rattle.graph_rules.specs.Layout.{mostStates}
 
 abbrev Inv-loop : tie.InvT-loop
 Inv-loop graph n from out₀ stack₀ top₀ next₀ out stack top next = (next ≤ n) × Seeded (graphFrom graph) next out stack top
@@ -36,7 +37,7 @@ abbrev Inv-loop2 : tie.InvT-loop2
 Inv-loop2 graph n from out₀ stack₀ top₀ next out stack top = Search (graphFrom graph) (λ _. ⊥) out stack top × SeedsIn (graphFrom graph) n out
 
 abbrev μ-loop2 : tie.MeasureT-loop2
-μ-loop2 graph n from out₀ stack₀ top₀ next out stack top = (1024 - count out) + top
+μ-loop2 graph n from out₀ stack₀ top₀ next out stack top = (mostStates - count out) + top
 
 abbrev Seeding : Type 0
 Seeding = tie.At-loop Inv-loop μ-loop Inv-loop3 μ-loop3 Inv-loop2 μ-loop2
@@ -50,7 +51,7 @@ w c = St c .args .graph .now
 abbrev g : Seeding → Graph
 g c = graphFrom (w c)
 
-size : (c : Seeding) → (c .before .before .word .result ≡ length (g c .states)) × (c .before .before .word .result ≤ 1024) × (c .before .before .word .result ≡ getD (w c) 0 0)
+size : (c : Seeding) → (c .before .before .word .result ≡ length (g c .states)) × (c .before .before .word .result ≤ mostStates) × (c .before .before .word .result ≡ getD (w c) 0 0)
 size c =
     let a = c .before .before .word .ensures .0 in
     let b = from-length (w c) in
@@ -62,10 +63,10 @@ module _ (c : tie.In-loop Inv-loop μ-loop Inv-loop3 μ-loop3 Inv-loop2 μ-loop2
   abbrev at : Seeding
   at = c .before
 
-  small : at .loop .next < 1024
+  small : at .loop .next < mostStates
   small = let e = size at .1 in omega arith
 
-  room : at .loop .top < 1024
+  room : at .loop .top < mostStates
   room = let l = at .loop in seeded-room (g at) (l .next) (l .out) (l .stack) (l .top) (l .inv .1) small
 
 -- the state that is taken off the stack
@@ -76,10 +77,10 @@ module _ (c : tie.In-loop2 Inv-loop μ-loop Inv-loop3 μ-loop3 Inv-loop2 μ-loop
   abbrev cur : ℕ
   cur = getD (look .loop2 .stack) (look .loop2 .top - 1) 0
 
-  cur-below : cur < 1024
+  cur-below : cur < mostStates
   cur-below = let l = look .loop2 in taken-below _ (l .out) (l .stack) (l .top) (l .inv .0) (c .loop2-test .taken)
 
-  low : look .loop2 .top ≤ 1024
+  low : look .loop2 .top ≤ mostStates
   low = let l = look .loop2 in stack-low _ (l .out) (l .stack) (l .top) (l .inv .0)
 
 -- the state that is asked whether it is a parent
@@ -90,10 +91,10 @@ module _ (c : tie.In-loop3 Inv-loop μ-loop Inv-loop3 μ-loop3 Inv-loop2 μ-loop
   abbrev start : Seeding
   start = c .before .before .before .before .before
 
-  parent-below : c .before .loop3 .p < 1024
+  parent-below : c .before .loop3 .p < mostStates
   parent-below = let e = size start .1 in omega arith
 
-  room3 : getD (c .before .loop3 .out) (c .before .loop3 .p) false ≡ false → c .before .loop3 .top < 1024
+  room3 : getD (c .before .loop3 .out) (c .before .loop3 .p) false ≡ false → c .before .loop3 .top < mostStates
   room3 = looked-room _ _ _ (c .before .loop3 .p) _ _ (c .before .loop3 .out) _ (c .before .loop3 .top) (c .before .loop3 .inv) parent-below
 
 -- the bit that is tested says whether the state is a parent
@@ -272,7 +273,7 @@ returns c =
     let e = size p in
     let n : length (g p .states) ≡ getD (w p) 0 0 = omega arith in
     search-done (g p) (l .out) (l .stack) (l .top) (omega arith) (c .loop2-test .left) (l .inv .0) (λ s h x. l .inv .1 s (omega arith) x)
-    ∙ ap (λ (k : ℕ). kept (g p) ++ replicate (1024 - k) false) n
+    ∙ ap (λ (k : ℕ). kept (g p) ++ replicate (mostStates - k) false) n
 
 pub kept-spec : {M : Type 1} → statement M
 kept-spec =

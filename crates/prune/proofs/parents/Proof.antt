@@ -12,12 +12,13 @@ use Rattle.words.proofs.GraphWords.{from-edge, edge-none, edge-some}
 use Rattle.prune.proofs.BitRows.{Matrix, parents-none, parents-skip, parents-set, parents-row, parents-all}
 use Rattle.prune.proofs.parents.Statement.{statement}
 use Rattle.prune.proofs.parents.Tie as tie
+use Rattle.graph_rules.specs.Layout.{stepCount, mostStates}
 
 abbrev Inv-loop2 : tie.InvT-loop2
-Inv-loop2 graph n out₀ p c₀ out c = (c ≤ 257) × Matrix (graphFrom graph) p c out
+Inv-loop2 graph n out₀ p c₀ out c = (c ≤ stepCount) × Matrix (graphFrom graph) p c out
 
 abbrev μ-loop2 : tie.MeasureT-loop2
-μ-loop2 graph n out₀ p c₀ out c = 257 - c
+μ-loop2 graph n out₀ p c₀ out c = stepCount - c
 
 abbrev Inv-loop : tie.InvT-loop
 Inv-loop graph n out₀ p₀ out p = (p ≤ n) × Matrix (graphFrom graph) p 0 out
@@ -31,7 +32,7 @@ St c = c .before .before .before
 abbrev g : tie.At-loop Inv-loop2 μ-loop2 Inv-loop μ-loop → Graph
 g c = graphFrom (St c .args .graph .now)
 
-inside : (c : tie.In-loop Inv-loop2 μ-loop2 Inv-loop μ-loop) → (c .before .loop .p < getD (St (c .before) .args .graph .now) 0 0) × (c .before .loop .p < 1024)
+inside : (c : tie.In-loop Inv-loop2 μ-loop2 Inv-loop μ-loop) → (c .before .loop .p < getD (St (c .before) .args .graph .now) 0 0) × (c .before .loop .p < mostStates)
 inside c =
     let e = c .before .before .word .ensures .0 in
     let few = taken-few (St (c .before) .args .graph .now) (St (c .before) .pre) in
@@ -39,7 +40,7 @@ inside c =
 
 -- the edge that the turn looks at leads to a state
 led : (c : tie.Then1 Inv-loop2 μ-loop2 Inv-loop μ-loop) → let p = c .before .before .before .before .before in
-    (to (g p) (p .loop .p) (c .before .before .before .loop2 .c) ≡ some (c .before .target .result)) × (c .before .target .result < 1024)
+    (to (g p) (p .loop .p) (c .before .before .before .loop2 .c) ≡ some (c .before .target .result)) × (c .before .target .result < mostStates)
 led c =
     let p = c .before .before .before .before .before in
     let w = St p .args .graph .now in

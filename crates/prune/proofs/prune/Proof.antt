@@ -15,10 +15,11 @@ use Rattle.relabel.specs.Names.{namesOf, Fitting}
 use Rattle.prune.proofs.Pruning.{prune-is, prune-fitting}
 use Rattle.prune.proofs.prune.Statement.{statement}
 use Rattle.prune.proofs.prune.Tie as tie
+use Rattle.graph_rules.specs.Layout.{mostStates, graphSize}
 
 -- the names are the numbers of the kept states
 names-are : (c : tie.After-numbered) → let g = graphFrom (c .before .before .before .before .before .args .graph .now) in
-    namesOf (c .numbered .result) ≡ numberFrom 0 (kept g ++ replicate (1024 - getD (c .before .before .before .before .before .args .graph .now) 0 0) false)
+    namesOf (c .numbered .result) ≡ numberFrom 0 (kept g ++ replicate (mostStates - getD (c .before .before .before .before .before .args .graph .now) 0 0) false)
 names-are c = c .numbered .ensures ∙ ap (numberFrom 0) (c .before .before .kept .ensures)
 
 fitting : (w : List ℕ) → graphFits w ≡ true → (keep : List Bool) (names : List (Option ℕ)) (j : ℕ) → keep ≡ kept (graphFrom w) ++ replicate j false
@@ -36,7 +37,7 @@ relabel-requires : tie.Need-relabel-requires
 relabel-requires c κs =
     let t = c .before .before .before in
     let a = t .before .before .before .before .before in
-    (a .pre, (search needs, fitting (a .args .graph .now) (a .pre) (t .before .before .kept .result) (namesOf (t .numbered .result)) (1024 - getD (a .args .graph .now) 0 0) (t .before .before .kept .ensures) (names-are t)))
+    (a .pre, (search needs, fitting (a .args .graph .now) (a .pre) (t .before .before .kept .result) (namesOf (t .numbered .result)) (mostStates - getD (a .args .graph .now) 0 0) (t .before .before .kept .ensures) (names-are t)))
 
 same-length : tie.Need-same-length
 same-length c = search needs
@@ -47,9 +48,9 @@ returns c =
     let t = c .before .before .before .before .before .before in
     let w = t .before .before .before .before .before .args .graph .now in (
       r .ensures .0
-          ∙ ap (λ (g : Graph). graphBuffer (getD w 0 0) g ++ drop (2 + 258 * getD w 0 0) w)
+          ∙ ap (λ (g : Graph). graphBuffer (getD w 0 0) g ++ drop (graphSize (getD w 0 0)) w)
           (ap (λ (k : List Bool). relabel (namesOf (t .numbered .result)) (select k (graphFrom w .states)) (graphFrom w .root)) (t .before .before .kept .ensures)
-          ∙ prune-is (graphFrom w) (1024 - getD w 0 0) (namesOf (t .numbered .result)) (names-are t)),
+          ∙ prune-is (graphFrom w) (mostStates - getD w 0 0) (namesOf (t .numbered .result)) (names-are t)),
       r .ensures .1,
     )
 

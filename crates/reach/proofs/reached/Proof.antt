@@ -10,9 +10,9 @@ use borrow.Author.Tests.{not-true, not-false}
 use lib.ListN.{length, getD, set, replicate, length-replicate}
 use lib.Seq.{getD-set-same}
 use Rattle.lists.specs.Sets.{In, count}
-use Rattle.lists.proofs.Closure.{count-length}
+use Rattle.lists.proofs.Counting.{count-length}
 use Rattle.lists.proofs.Worklist.{Work, AllIn, pop, push, finish, closed, single, count-more, count-room, in-keeps}
-use Rattle.words.specs.Places.{rowPlace}
+use Rattle.graph_rules.specs.Layout.{stepCount, mostStates, rowPlace}
 use Rattle.legal.specs.Conditions.{targetWord, Sized}
 use Rattle.legal.proofs.Legal.{legal-sized}
 use Rattle.legal.proofs.Steps.{Found, found-start, found-below, found-step, reached-is}
@@ -21,28 +21,28 @@ use Rattle.reach.proofs.reached.Tie as tie
 
 -- one state marked, and alone on the stack; of any size, so that no list of 1,024 is written out
 begun : (tgt : ℕ → ℕ → ℕ) (cap : ℕ) (Good : ℕ → Type 0) (s : ℕ) → s < cap → Good s
-    → let marked = set (replicate cap false) s true in Work tgt 257 cap Good (λ k. ⊥) marked (set (replicate cap 0) 0 s) 1 × In marked s
+    → let marked = set (replicate cap false) s true in Work tgt stepCount cap Good (λ k. ⊥) marked (set (replicate cap 0) 0 s) 1 × In marked s
 begun tgt cap Good s h g = (
-  single tgt 257 cap Good (replicate cap 0) (omega (arith, length-replicate {A = ℕ} cap 0)) s h g,
+  single tgt stepCount cap Good (replicate cap 0) (omega (arith, length-replicate {A = ℕ} cap 0)) s h g,
   getD-set-same (replicate cap false) s true false (omega (arith, length-replicate cap false)),
 )
 
 abbrev Inv-loop2 : tie.InvT-loop2
 Inv-loop2 table start m out₀ stack₀ top₀ s c₀ out stack top c =
-    Work (targetWord table) 257 1024 (Found table start) (λ k. k ≡ s) out stack top
+    Work (targetWord table) stepCount mostStates (Found table start) (λ k. k ≡ s) out stack top
     × In out start
     × AllIn (targetWord table s) out c
-    × (c ≤ 257)
+    × (c ≤ stepCount)
     × (count out + top₀ ≡ count out₀ + top)
 
 abbrev μ-loop2 : tie.MeasureT-loop2
-μ-loop2 table start m out₀ stack₀ top₀ s c₀ out stack top c = 257 - c
+μ-loop2 table start m out₀ stack₀ top₀ s c₀ out stack top c = stepCount - c
 
 abbrev Inv-loop : tie.InvT-loop
-Inv-loop table start m out₀ stack₀ top₀ out stack top = Work (targetWord table) 257 1024 (Found table start) (λ k. ⊥) out stack top × In out start
+Inv-loop table start m out₀ stack₀ top₀ out stack top = Work (targetWord table) stepCount mostStates (Found table start) (λ k. ⊥) out stack top × In out start
 
 abbrev μ-loop : tie.MeasureT-loop
-μ-loop table start m out₀ stack₀ top₀ out stack top = (1024 - count out) + top
+μ-loop table start m out₀ stack₀ top₀ out stack top = (mostStates - count out) + top
 
 -- ---- what is known at each place
 
@@ -85,7 +85,7 @@ module _ (c : tie.After-row-word Inv-loop2 μ-loop2 Inv-loop μ-loop) where
       subst (Found (words b) (b .args .start)) (sym target-is)
       (found-step (words b) (b .pre .0) (b .args .start) (b .pre .1) (state outer) (c .before .before .loop2 .c) (state-found outer) (omega arith))
 
-  target-below : c .row-word .result < 1024
+  target-below : c .row-word .result < mostStates
   target-below =
       let b = begin outer in
       let n = sized b in
@@ -105,7 +105,7 @@ loop-holds : tie.Need-loop-holds Inv-loop2 μ-loop2 Inv-loop μ-loop
 loop-holds c =
     let a = c .before .before in
     let z = sized a in
-    begun (targetWord (words a)) 1024 (Found (words a) (a .args .start)) (a .args .start) (omega arith) (found-start (words a) (a .pre .0) (a .args .start) (a .pre .1))
+    begun (targetWord (words a)) mostStates (Found (words a) (a .args .start)) (a .args .start) (omega arith) (found-start (words a) (a .pre .0) (a .args .start) (a .pre .1))
 
 sub-top : tie.Need-sub-top Inv-loop2 μ-loop2 Inv-loop μ-loop
 sub-top c = omega arith
@@ -120,7 +120,7 @@ loop2-holds : tie.Need-loop2-holds Inv-loop2 μ-loop2 Inv-loop μ-loop
 loop2-holds c =
     let a = begin c in
     let l = c .before .loop in (
-      pop (targetWord (words a)) 257 1024 (Found (words a) (a .args .start)) (l .out) (l .stack) (l .top) (c .loop-test .taken) (l .inv .0),
+      pop (targetWord (words a)) stepCount mostStates (Found (words a) (a .args .start)) (l .out) (l .stack) (l .top) (c .loop-test .taken) (l .inv .0),
       l .inv .1,
       below-none _,
       omega arith,
@@ -135,7 +135,7 @@ loop-again : tie.Need-loop-again Inv-loop2 μ-loop2 Inv-loop μ-loop
 loop-again c =
     let a = begin (c .before .before) in
     let m = c .before .loop2 in (
-      finish (targetWord (words a)) 257 1024 (Found (words a) (a .args .start)) (m .out) (m .stack) (m .top) (state (c .before .before))
+      finish (targetWord (words a)) stepCount mostStates (Found (words a) (a .args .start)) (m .out) (m .stack) (m .top) (state (c .before .before))
           (λ j h. m .inv .2 j (omega arith)) (m .inv .0),
       m .inv .1,
     )
@@ -178,7 +178,7 @@ loop2-again c =
     let low = target-below d in
     let free = not-true _ (c .if1 .taken) in
     let more : count (set (l .out) u true) ≡ count (l .out) + 1 = count-more (l .out) u (omega arith) free in (
-      push (targetWord (words a)) 257 1024 (Found (words a) (a .args .start)) (l .out) (l .stack) (l .top) u low free (target-found d) (l .inv .0),
+      push (targetWord (words a)) stepCount mostStates (Found (words a) (a .args .start)) (l .out) (l .stack) (l .top) u low free (target-found d) (l .inv .0),
       in-keeps (l .out) u (a .args .start) (l .inv .1),
       below-more _ (l .c) (λ k h. in-keeps (l .out) u _ (l .inv .2 k h)) (rw (← target-is d) (getD-set-same (l .out) u true false (omega arith))),
       omega arith,
@@ -199,7 +199,7 @@ returns c =
     let a = c .before .before .before .before in
     let l = c .before .loop in
     reached-is (words a) (a .pre .0) (a .args .start) (a .pre .1) (l .out) (l .inv .0 .outLen) (l .inv .1)
-    (closed (targetWord (words a)) 257 1024 (Found (words a) (a .args .start)) (l .out) (l .stack) (l .top) (c .loop-test .left) (l .inv .0))
+    (closed (targetWord (words a)) stepCount mostStates (Found (words a) (a .args .start)) (l .out) (l .stack) (l .top) (c .loop-test .left) (l .inv .0))
     (l .inv .0 .good)
 
 pub reached-spec : {M : Type 1} → statement M

@@ -5,17 +5,17 @@ use Prim.Native.Nat.{ℕ, _≤_, _<_, _-_, _+_}
 use native.Mathlib.Omega.{arith}
 use mathlib.Core.Logic.{_⊎_}
 use lib.ListN.{getD, set, length-set}
-use Rattle.words.specs.Places.{graphPlace}
+use Rattle.graph_rules.specs.Layout.{stepCount, noState, mostStates, graphPlace}
 use Rattle.relabel.specs.Names.{renamedWord, Moved}
 use Rattle.relabel.proofs.Rows.{Moving, moving-none, moving-next, moving-more, moving-done}
 use Rattle.relabel.proofs.move_row.Statement.{statement}
 use Rattle.relabel.proofs.move_row.Tie as tie
 
 abbrev Inv-loop : tie.InvT-loop
-Inv-loop graph₀ names s k c₀ graph c = (c ≤ 257) × Moving names s k c graph₀ graph
+Inv-loop graph₀ names s k c₀ graph c = (c ≤ stepCount) × Moving names s k c graph₀ graph
 
 abbrev μ-loop : tie.MeasureT-loop
-μ-loop graph₀ names s k c₀ graph c = 257 - c
+μ-loop graph₀ names s k c₀ graph c = stepCount - c
 
 abbrev St : tie.At-loop Inv-loop μ-loop → tie.Start Inv-loop μ-loop
 St c = c .before .before
@@ -47,7 +47,7 @@ word-requires c κs =
 new-name-requires : tie.Need-new-name-requires Inv-loop μ-loop
 new-name-requires c κs =
     let p = c .before .before .before .before in
-    (St p .pre .0, subst (λ (u : ℕ). (u < 1024) ⊎ (u ≡ 65535)) (sym (read c)) (St p .pre .1 .1 (p .loop .c) (c .before .before .before .loop-test .taken)))
+    (St p .pre .0, subst (λ (u : ℕ). (u < mostStates) ⊎ (u ≡ noState)) (sym (read c)) (St p .pre .1 .1 (p .loop .c) (c .before .before .before .loop-test .taken)))
 
 place-requires-2 : tie.Need-place-requires-2 Inv-loop μ-loop
 place-requires-2 c κs = omega arith
@@ -117,7 +117,7 @@ returns c =
     let p = c .before .before .before .before in
     let l = p .loop in
     let a = St p in
-    let e : l .c ≡ 257 = omega arith in
+    let e : l .c ≡ stepCount = omega arith in
     subst₂ (λ (i j : ℕ). Moved (a .args .names .now) (a .args .s) (a .args .k) (a .args .graph .now) (set (l .graph) i (getD (l .graph) j 0)))
     (sym (c .place4 .ensures)) (sym (c .before .before .place3 .ensures))
     (moving-done (a .args .names .now) (a .args .s) (a .args .k) (a .args .graph .now) (a .pre .1 .0 .0) (a .pre .1 .0 .2) (l .graph)

@@ -5,12 +5,13 @@ use native.Mathlib.Omega.{arith}
 use Rattle.relabel.proofs.Naming.{Numbered, numbered-none, numbered-low, numbered-in, numbered-out, numbered-all}
 use Rattle.relabel.proofs.numbered.Statement.{statement}
 use Rattle.relabel.proofs.numbered.Tie as tie
+use Rattle.graph_rules.specs.Layout.{mostStates}
 
 abbrev Inv-loop : tie.InvT-loop
-Inv-loop keep out₀ k₀ next₀ out k next = (next ≤ 1024) × Numbered keep next k out
+Inv-loop keep out₀ k₀ next₀ out k next = (next ≤ mostStates) × Numbered keep next k out
 
 abbrev μ-loop : tie.MeasureT-loop
-μ-loop keep out₀ k₀ next₀ out k next = 1024 - next
+μ-loop keep out₀ k₀ next₀ out k next = mostStates - next
 
 low : (c : tie.At-loop Inv-loop μ-loop) → c .loop .k ≤ c .loop .next
 low c = numbered-low (c .before .args .keep .now) (c .loop .next) (c .loop .k) (c .loop .out) (c .loop .inv .1)
@@ -58,7 +59,7 @@ returns : tie.Need-returns Inv-loop μ-loop
 returns c =
     let l = c .before .loop in
     let a = c .before .before in
-    let e : l .next ≡ 1024 = omega arith in
+    let e : l .next ≡ mostStates = omega arith in
     numbered-all (a .args .keep .now) (l .k) (l .out) (a .pre) (subst (λ (s : ℕ). Numbered (a .args .keep .now) s (l .k) (l .out)) e (l .inv .1))
 
 pub numbered-spec : {M : Type 1} → statement M

@@ -10,7 +10,7 @@ use native.Mathlib.Omega.{arith}
 use lib.ListN.{length, getD, set, take, drop, length-set, length-append}
 use Rattle.lists.specs.Lists.{select}
 use Rattle.lists.proofs.Selecting.{select-from, select-in, select-out, select-whole, select-few}
-use Rattle.words.specs.Places.{graphPlace}
+use Rattle.graph_rules.specs.Layout.{mostStates, graphPlace, graphSize, noLeaf}
 use Rattle.graph_rules.specs.Graph.{State, Graph, blank, stateOf, graphFrom, graphBuffer}
 use Rattle.graph_rules.specs.Build.{relabel}
 use Rattle.graph_rules.proofs.Fits.{Fits, relabel-fits}
@@ -43,7 +43,7 @@ w₀ c = St c .args .graph .now
 abbrev so-far : tie.At-loop Inv-loop μ-loop → List State
 so-far c = staying (St c .args .stay .now) (w₀ c) (c .loop .s)
 
-count : (c : tie.At-loop Inv-loop μ-loop) → (c .before .before .before .word .result ≡ getD (w₀ c) 0 0) × (c .before .before .before .word .result ≤ 1024)
+count : (c : tie.At-loop Inv-loop μ-loop) → (c .before .before .before .word .result ≡ getD (w₀ c) 0 0) × (c .before .before .before .word .result ≤ mostStates)
 count c =
     let e = c .before .before .before .word .ensures .0 in
     let few = taken-few (w₀ c) (St c .pre .0) in
@@ -60,12 +60,12 @@ rest c = select (St c .args .stay .now) (graphFrom (w₀ c) .states)
 abbrev new : tie.At-loop Inv-loop μ-loop → Graph
 new c = relabel (namesOf (St c .args .names .now)) (rest c) (graphFrom (w₀ c) .root)
 
-new-fits : (c : tie.At-loop Inv-loop μ-loop) → length (rest c) ≤ getD (w₀ c) 0 0 → Fits 255 (getD (w₀ c) 0 0) (new c)
+new-fits : (c : tie.At-loop Inv-loop μ-loop) → length (rest c) ≤ getD (w₀ c) 0 0 → Fits noLeaf (getD (w₀ c) 0 0) (new c)
 unfolding stateOf
 new-fits c few =
     let a = St c in
     let small : (i : ℕ) → getD (w₀ c) i 0 < 65536 = λ i. omega (arith, c .before .before .before .before .before .slice-known .given i) in
-    relabel-fits 255 (getD (w₀ c) 0 0) (graphFrom (w₀ c)) (taken-fits (w₀ c) (a .pre .0) small .states) (namesOf (a .args .names .now)) (rest c) (graphFrom (w₀ c) .root) few
+    relabel-fits noLeaf (getD (w₀ c) 0 0) (graphFrom (w₀ c)) (taken-fits (w₀ c) (a .pre .0) small .states) (namesOf (a .args .names .now)) (rest c) (graphFrom (w₀ c) .root) few
     (select-from blank (a .args .stay .now) (graphFrom (w₀ c) .states)) (a .pre .1 .1 .below) (a .pre .1 .1 .root-below)
 
 word-requires : tie.Need-word-requires Inv-loop μ-loop
@@ -213,9 +213,9 @@ returns c =
     subst₂ (λ (x y : ℕ). Zeroed (graphPlace x 0) (graphPlace y 0) (l .graph) (d .before .before .zero-rows .last .0)) k-is (e .0) (d .before .before .zero-rows .ensures) in
     let root : new p .root ≡ c .root-name .result = sym (c .root-name .ensures ∙ ap (λ (x : ℕ). Option·getD (getD (namesOf ns) x none) 0) (p .before .word2 .ensures .0)) in
     let eq =
-    subst₂ (λ (k r : ℕ). set (set (d .before .before .zero-rows .last .0) 0 k) 1 r ≡ graphBuffer n (new p) ++ drop (2 + 258 * n) w) (sym k-is) root
+    subst₂ (λ (k r : ℕ). set (set (d .before .before .zero-rows .last .0) 0 k) 1 r ≡ graphBuffer n (new p) ++ drop (graphSize n) w) (sym k-is) root
     (packed-all ns w (a .pre .0) (rest p) (graphFrom w .root) (new-fits p few) few (l .graph) (d .before .before .zero-rows .last .0) packed zeroed) in
-    (eq, rw eq (buffer-taken 255 n (omega arith) (taken-few w (a .pre .0)) (new p) (new-fits p few) (drop (2 + 258 * n) w)))
+    (eq, rw eq (buffer-taken noLeaf n (omega arith) (taken-few w (a .pre .0)) (new p) (new-fits p few) (drop (graphSize n) w)))
 
 pub relabel-spec : {M : Type 1} → statement M
 relabel-spec =

@@ -2,7 +2,7 @@
 use mathlib.Core.Path.{_≡_, subst₂}
 use Prim.Native.Nat.{ℕ, _≤_, _-_}
 use native.Mathlib.Omega.{arith}
-use Rattle.words.specs.Places.{graphPlace}
+use Rattle.graph_rules.specs.Layout.{graphPlace}
 use Rattle.relabel.specs.Names.{Zeroed}
 use Rattle.relabel.proofs.Rows.{zeroed-none, zeroed-more}
 use Rattle.relabel.proofs.zero_rows.Statement.{statement}

@@ -8,7 +8,7 @@ use native.Mathlib.Omega.{arith}
 use lib.ListN.{length, getD, take, replicate}
 use lib.Seq.{sets}
 use Rattle.lists.specs.Sets.{count}
-use Rattle.words.specs.Places.{graphPlace}
+use Rattle.graph_rules.specs.Layout.{graphPlace}
 use Rattle.legal.specs.Conditions.{states, Sized}
 use Rattle.legal.proofs.Legal.{legal-sized}
 use Rattle.rows.proofs.FirstRows.{Written, written-length, written-same, written-none, written-in, written-out, written-all, states-are}

@@ -7,7 +7,7 @@ use lib.ListN.{length, getD, set, take, length-set}
 use lib.Seq.{sets, take-all}
 use Rattle.lists.proofs.Runs.{sets-take}
 use Rattle.graph_rules.specs.Table.{tableOf}
-use Rattle.words.specs.Places.{graphPlace, rowPlace}
+use Rattle.graph_rules.specs.Layout.{stepCount, mostStates, rowWords, graphPlace, noLeaf, marksWord, rowPlace}
 use Rattle.legal.specs.Conditions.{targetWord, Sized}
 use Rattle.rows.specs.Renumbering.{newTarget, newRow}
 use Rattle.legal.proofs.Legal.{legal-sized, legal-means}
@@ -18,10 +18,10 @@ use Rattle.rows.proofs.write_row.Tie as tie
 
 abbrev Inv-loop : tie.InvT-loop
 Inv-loop table s numbers graph₀ k m c₀ graph c =
-    (c ≤ 257) × (length graph ≡ length graph₀) × (graph ≡ sets graph₀ (graphPlace k 0) (take c (newRow (tableOf table) numbers s)))
+    (c ≤ stepCount) × (length graph ≡ length graph₀) × (graph ≡ sets graph₀ (graphPlace k 0) (take c (newRow (tableOf table) numbers s)))
 
 abbrev μ-loop : tie.MeasureT-loop
-μ-loop table s numbers graph₀ k m c₀ graph c = 257 - c
+μ-loop table s numbers graph₀ k m c₀ graph c = stepCount - c
 
 -- ---- what is known at each place
 
@@ -38,7 +38,7 @@ module _ (at : tie.At-loop Inv-loop μ-loop) where
   sized : Sized words
   sized = legal-sized words (begin .pre .0)
 
-  long : length row ≡ 258
+  long : length row ≡ rowWords
   long = row-length words sized (begin .args .numbers .now) (begin .args .s) (begin .pre .1 .0)
 
 module _ (c : tie.After-row-word Inv-loop μ-loop) where
@@ -48,7 +48,7 @@ module _ (c : tie.After-row-word Inv-loop μ-loop) where
       let at = c .before .before in
       c .row-word .ensures .0 ∙ ap (λ (m : ℕ). getD (words at) (rowPlace m (begin at .args .s) (at .loop .c)) 0) (at .before .leaves .ensures .0)
 
-  target-below : c .row-word .result < 1024
+  target-below : c .row-word .result < mostStates
   target-below =
       let at = c .before .before in
       let z = sized at in
@@ -131,7 +131,7 @@ slice-write-graph-2 c = omega arith
 
 same-length : tie.Need-same-length Inv-loop μ-loop
 same-length c =
-    let at = c .before .before .before in length-set (at .loop .graph) (c .before .place2 .result) (c .leaf-of .result + 256 * 255) ∙ at .loop .inv .1
+    let at = c .before .before .before in length-set (at .loop .graph) (c .before .place2 .result) (marksWord (c .leaf-of .result) noLeaf) ∙ at .loop .inv .1
 
 returns : tie.Need-returns Inv-loop μ-loop
 returns c =
@@ -139,13 +139,13 @@ returns c =
     let g = begin at .args .graph .now in
     let p = graphPlace (begin at .args .k) 0 in
     let i = c .before .place2 .result in
-    let v = c .leaf-of .result + 256 * 255 in
+    let v = marksWord (c .leaf-of .result) noLeaf in
     let l = long at in
     let whole : take (at .loop .c + 1) (row at) ≡ row at = take-all (at .loop .c + 1) (row at) (omega arith) in
-    let last : at .loop .c ≡ 257 = omega arith in
+    let last : at .loop .c ≡ stepCount = omega arith in
     ap (λ (x : List ℕ). set x i v) (at .loop .inv .2)
     ∙ ap (λ (x : ℕ). set (sets g p (take (at .loop .c) (row at))) i x)
-    (ap (λ (x : ℕ). x + 256 * 255) (c .leaf-of .ensures) ∙ sym (row-marks (words at) (sized at) (begin at .args .numbers .now) (begin at .args .s) (begin at .pre .1 .0))
+    (ap (λ (x : ℕ). marksWord x noLeaf) (c .leaf-of .ensures) ∙ sym (row-marks (words at) (sized at) (begin at .args .numbers .now) (begin at .args .s) (begin at .pre .1 .0))
     ∙ ap (λ (x : ℕ). getD (row at) x 0) (sym last))
     ∙ sets-take g p (row at) (at .loop .c) 0 i (omega arith) (omega arith)
     ∙ ap (sets g p) whole

@@ -9,11 +9,12 @@ use Rattle.display.specs.Display.{endLines}
 use Rattle.display.proofs.Runs.{wrote-none, wrote-as}
 use Rattle.display.proofs.state.end_line.Statement.{statement}
 use Rattle.display.proofs.state.end_line.Tie as tie
+use Rattle.graph_rules.specs.Layout.{noState}
 
 returns : tie.Need-returns
 returns c = simp (eq-eqb _ _ (c .if1 .taken)) (wrote-none _ _)
 
-line : (c : tie.Else1) → after (bytes "\n") (endLines (orNone 65535 (c .before .before .args .target))) ≡ bytes "\n    EOI => state" ++ decimal (c .before .before .args .target)
+line : (c : tie.Else1) → after (bytes "\n") (endLines (orNone noState (c .before .before .args .target))) ≡ bytes "\n    EOI => state" ++ decimal (c .before .before .args .target)
 line c = simp (ne-eqb _ _ (c .if1 .left)) (append-nil _)
 
 slice-aggregate-numbered : tie.Need-slice-aggregate-numbered

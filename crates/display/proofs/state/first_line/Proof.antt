@@ -11,16 +11,17 @@ use Rattle.display.specs.Display.{markText, firstLine}
 use Rattle.display.proofs.Runs.{wrote-then, wrote-as}
 use Rattle.display.proofs.state.first_line.Statement.{statement}
 use Rattle.display.proofs.state.first_line.Tie as tie
+use Rattle.graph_rules.specs.Layout.{noLeaf, acceptIn, earlyIn}
 
 -- the parts: state s with the leaves a and e, or none
-parts : (s a e : ℕ) → firstLine s (orNone 255 a) (orNone 255 e)
-    ≡ (bytes "  state" ++ decimal s) ++ (bytes " => StateData(" ++ (markText (bytes "accept(") (orNone 255 a) ++ (markText (bytes "early(") (orNone 255 e) ++ bytes ") {")))
+parts : (s a e : ℕ) → firstLine s (orNone noLeaf a) (orNone noLeaf e)
+    ≡ (bytes "  state" ++ decimal s) ++ (bytes " => StateData(" ++ (markText (bytes "accept(") (orNone noLeaf a) ++ (markText (bytes "early(") (orNone noLeaf e) ++ bytes ") {")))
 unfolding firstLine
 parts s a e = refl
 
-size : (s : tie.Start) → length (firstLine (s .args .s) (orNone 255 (s .args .marks % 256)) (orNone 255 (s .args .marks / 256)))
-    ≡ 24 + (length (decimal (s .args .s)) + (length (markText (bytes "accept(") (orNone 255 (s .args .marks % 256))) + length (markText (bytes "early(") (orNone 255 (s .args .marks / 256)))))
-size s = omega (arith, simp length-append at (ap length (parts (s .args .s) (s .args .marks % 256) (s .args .marks / 256))))
+size : (s : tie.Start) → length (firstLine (s .args .s) (orNone noLeaf (acceptIn (s .args .marks))) (orNone noLeaf (earlyIn (s .args .marks))))
+    ≡ 24 + (length (decimal (s .args .s)) + (length (markText (bytes "accept(") (orNone noLeaf (acceptIn (s .args .marks)))) + length (markText (bytes "early(") (orNone noLeaf (earlyIn (s .args .marks))))))
+size s = omega (arith, simp length-append at (ap length (parts (s .args .s) (acceptIn (s .args .marks)) (earlyIn (s .args .marks)))))
 
 slice-aggregate-numbered : tie.Need-slice-aggregate-numbered
 slice-aggregate-numbered c = search needs
@@ -63,7 +64,7 @@ returns c =
     let opening = accept .before .before .before .before .before in
     let name = opening .before .before .before .before .before in
     let a = name .before .before .before .before .args in
-    wrote-as (sym (parts (a .s) (a .marks % 256) (a .marks / 256)))
+    wrote-as (sym (parts (a .s) (acceptIn (a .marks)) (earlyIn (a .marks))))
     (wrote-then (name .numbered .ensures)
     (wrote-then (opening .text .ensures)
     (wrote-then (accept .mark .ensures)

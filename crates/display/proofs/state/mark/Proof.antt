@@ -9,12 +9,13 @@ use Rattle.display.specs.Display.{markText}
 use Rattle.display.proofs.Runs.{wrote-none, wrote-then, wrote-as, counts-first, counts-then}
 use Rattle.display.proofs.state.mark.Statement.{statement}
 use Rattle.display.proofs.state.mark.Tie as tie
+use Rattle.graph_rules.specs.Layout.{noLeaf}
 
 returns : tie.Need-returns
 returns c = simp (eq-eqb _ _ (c .if1 .taken)) (wrote-none _ _)
 
 -- the text of a leaf's mark
-leafed : (c : tie.Else1) → markText (c .before .before .before .args .name .now) (orNone 255 (c .before .before .before .args .leaf))
+leafed : (c : tie.Else1) → markText (c .before .before .before .args .name .now) (orNone noLeaf (c .before .before .before .args .leaf))
     ≡ (c .before .before .before .args .name .now ++ decimal (c .before .before .before .args .leaf)) ++ bytes ") "
 leafed c =
     let a = c .before .before .before .args in

@@ -13,6 +13,7 @@ use Rattle.display.proofs.Runs.{wrote-then, wrote-as}
 use Rattle.display.proofs.Parts.{fourParts, state-parts}
 use Rattle.display.proofs.state.state.Statement.{statement}
 use Rattle.display.proofs.state.state.Tie as tie
+use Rattle.graph_rules.specs.Layout.{noState, noLeaf, acceptIn, earlyIn}
 
 abbrev words : tie.Start → List ℕ
 words s = s .args .graph .now
@@ -37,8 +38,8 @@ parts c =
     state-parts (words s) (s .pre .0) (s .args .s) (s .pre .1 .0) (c .before .word .result) (c .word2 .result) (c .before .word .ensures .0) (c .word2 .ensures .0)
 
 size : (c : tie.After-word2) → length (stateText (getD (words (start c)) 0 0) (start c .args .s) (st (start c)))
-    ≡ length (firstLine (start c .args .s) (orNone 255 (c .before .word .result % 256)) (orNone 255 (c .before .word .result / 256)))
-    + (length (after (bytes "\n") (edgeLines (getD (words (start c)) 0 0) (st (start c)))) + (length (after (bytes "\n") (endLines (orNone 65535 (c .word2 .result)))) + 4))
+    ≡ length (firstLine (start c .args .s) (orNone noLeaf (acceptIn (c .before .word .result))) (orNone noLeaf (earlyIn (c .before .word .result))))
+    + (length (after (bytes "\n") (edgeLines (getD (words (start c)) 0 0) (st (start c)))) + (length (after (bytes "\n") (endLines (orNone noState (c .word2 .result)))) + 4))
 size c = simp length-append at (ap length (parts c))
 
 first-line-requires : tie.Need-first-line-requires

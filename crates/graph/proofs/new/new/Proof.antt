@@ -21,18 +21,19 @@ use Rattle.legal.proofs.count_empty.Reads as count-empty-reads
 use Rattle.words.proofs.graph.place.Reads as place-reads
 use Rattle.words.proofs.table.start.Reads as start-reads
 use Rattle.words.proofs.table.states.Reads as states-reads
+use Rattle.graph_rules.specs.Layout.{noState, mostStates, graphSize}
 
 -- what is known once the start is read
 legal : (c : tie.After-start) → refusal (c .before .before .before .before .before .before .before .before .before .args .table .now) ≡ 0
 legal c = sym (c .before .before .before .before .before .check .ensures) ∙ c .before .before .before .before .if1 .left
 
-few : (c : tie.After-start) → c .before .before .before .states .result ≤ 1024
+few : (c : tie.After-start) → c .before .before .before .states .result ≤ mostStates
 few c = let h = few-states (c .before .before .before .before .before .before .before .before .before .args .table .now) (legal c) in let e = c .before .before .before .states .ensures .0 in omega arith
 
-room : (c : tie.After-start) → 2 + 258 * c .before .before .before .states .result ≤ length (c .before .before .before .before .before .before .before .before .before .args .graph .now)
+room : (c : tie.After-start) → graphSize (c .before .before .before .states .result) ≤ length (c .before .before .before .before .before .before .before .before .before .args .graph .now)
 room c = let e = c .before .before .place .ensures in let l = c .before .if2 .left in omega arith
 
-some-start : (c : tie.After-start) → (c .start .result ≡ 65535 → ⊥) → tableOf (c .before .before .before .before .before .before .before .before .before .args .table .now) .start ≡ some (c .start .result)
+some-start : (c : tie.After-start) → (c .start .result ≡ noState → ⊥) → tableOf (c .before .before .before .before .before .before .before .before .before .args .table .now) .start ≡ some (c .start .result)
 some-start c n =
     let w = c .before .before .before .before .before .before .before .before .before .args .table .now in
     start-some w (λ q. n (c .start .ensures .0 ∙ q)) ∙ ap {B = Option ℕ} some (sym (c .start .ensures .0))

@@ -7,12 +7,13 @@ use Rattle.readings.proofs.read.accepted.Statement.{statement}
 use Rattle.readings.proofs.read.accepted.Tie as tie
 use Rattle.readings.proofs.read.accepted.Reads as reads
 use Rattle.readings.proofs.read.accepted.Lts as lts
+use Rattle.graph_rules.specs.Layout.{noLeaf}
 
 returns : tie.Need-returns
 returns c = sym (late-none _ _ _ (c .if1 .taken))
 
 returns-2 : tie.Need-returns-2
-returns-2 c = let a = c .before .before .args in sym (late-zero (orNone 255 (a .accept)) _ _ (c .if2 .taken))
+returns-2 c = let a = c .before .before .args in sym (late-zero (orNone noLeaf (a .accept)) _ _ (c .if2 .taken))
 
 sub-t5 : tie.Need-sub-t5
 sub-t5 c = search needs

@@ -22,10 +22,11 @@ use Rattle.readings.proofs.read.mark_at.Reads as mark-at-reads
 use Rattle.readings.proofs.read.accept_at_end.Reads as accept-at-end-reads
 use Rattle.words.proofs.graph.word.Reads as graph-word-reads
 use Rattle.words.proofs.word.Reads as word-reads
+use Rattle.graph_rules.specs.Layout.{mostStates, graphSize}
 
 abbrev Inv-loop : tie.InvT-loop
 Inv-loop graph text r₀ s₀ k₀ r s k =
-    (s < getD graph 0 0) × (getD graph 0 0 ≤ 1024) × (2 + 258 * getD graph 0 0 ≤ length graph) × (k ≤ length text)
+    (s < getD graph 0 0) × (getD graph 0 0 ≤ mostStates) × (graphSize (getD graph 0 0) ≤ length graph) × (k ≤ length text)
     × (rest graph text s k (recorded (r .leaf) (r .end)) ≡ readGraph (graphFrom graph) text)
 
 abbrev μ-loop : tie.MeasureT-loop

@@ -6,63 +6,45 @@ use borrow.Author.Tests.{not-true, not-false}
 use Rattle.words.proofs.Fitting.{unfit-short, unfit-long, unfit-many, unfit-target, fits-none, fits-some}
 use Rattle.words.proofs.graph.fits.Statement.{statement}
 use Rattle.words.proofs.graph.fits.Tie as tie
-use Rattle.words.proofs.graph.fits.Reads as reads
-use Rattle.words.proofs.graph.fits.Lts as lts
-use Rattle.words.proofs.graph.targets_fit.Reads as targets-fit-reads
-use Rattle.words.proofs.word.Reads as word-reads
 
--- src/graph.rt:52:9
 returns : tie.Need-returns
 returns c = sym (unfit-short (c .before .before .args .graph .now) (omega arith))
 
--- src/graph.rt:54:9
 word-requires : tie.Need-word-requires
 word-requires c κs = search needs
 
--- src/graph.rt:56:9
 returns-2 : tie.Need-returns-2
 returns-2 c = sym (unfit-many (c .before .before .before .before .args .graph .now) _ (c .before .word .ensures .0) (c .if2 .taken))
 
--- src/graph.rt:58:26
-mul-if3 : tie.Need-mul-if3
-mul-if3 c = search needs
+place-requires : tie.Need-place-requires
+place-requires c κs = search needs
 
--- src/graph.rt:58:22
-add-if3 : tie.Need-add-if3
-add-if3 c = search needs
-
--- src/graph.rt:59:9
 returns-3 : tie.Need-returns-3
 returns-3 c =
-    let st = c .before .before .before .before .before in
-    sym (unfit-long (st .args .graph .now) _ (c .before .before .word .ensures .0) (omega arith))
+    let at = c .before .before .before in
+    sym (unfit-long (at .before .before .before .args .graph .now) _ (at .word .ensures .0) (omega (arith, c .before .place .ensures)))
 
--- src/graph.rt:61:9
 targets-fit-requires : tie.Need-targets-fit-requires
 targets-fit-requires c κs = search needs
 
--- src/graph.rt:62:9
 returns-4 : tie.Need-returns-4
 returns-4 c =
-    let at = c .before .before .before .before in
+    let at = c .before .before .before .before .before in
     sym (unfit-target (at .before .before .before .args .graph .now) _ (at .word .ensures .0) (sym (c .before .targets-fit .ensures) ∙ not-true _ (c .if4 .taken)))
 
--- src/graph.rt:64:9
 word-requires-2 : tie.Need-word-requires-2
 word-requires-2 c κs = search needs
 
--- src/graph.rt:66:9
 returns-5 : tie.Need-returns-5
 returns-5 c =
-    let at = c .before .before .before .before .before .before in
+    let at = c .before .before .before .before .before .before .before in
     let fit = sym (c .before .before .before .targets-fit .ensures) ∙ not-false _ (c .before .before .if4 .left) in
     sym (fits-none (at .before .before .before .args .graph .now) _ (at .word .ensures .0) (omega arith) (omega arith) (omega arith) fit _ (c .before .word2 .ensures .0)
     (c .if5 .taken))
 
--- src/graph.rt:48:1
 returns-6 : tie.Need-returns-6
 returns-6 c =
-    let at = c .before .before .before .before .before .before in
+    let at = c .before .before .before .before .before .before .before in
     let fit = sym (c .before .before .before .targets-fit .ensures) ∙ not-false _ (c .before .before .if4 .left) in
     sym (fits-some (at .before .before .before .args .graph .now) _ (at .word .ensures .0) (omega arith) (omega arith) (omega arith) fit _ (c .before .word2 .ensures .0)
     (c .if5 .left))
@@ -74,8 +56,7 @@ fits-spec =
     returns
     word-requires
     returns-2
-    mul-if3
-    add-if3
+    place-requires
     returns-3
     targets-fit-requires
     returns-4

@@ -5,8 +5,6 @@ use mathlib.Core.Bool.{true, false}
 use lib.Dec.{ltb}
 use Rattle.words.proofs.graph.target_fits.Statement.{statement}
 use Rattle.words.proofs.graph.target_fits.Tie as tie
-use Rattle.words.proofs.graph.target_fits.Reads as reads
-use Rattle.words.proofs.graph.target_fits.Lts as lts
 
 returns : tie.Need-returns
 returns c = let h : ltb (c .before .args .u) (c .before .args .n) ≡ true = lt-ltb _ _ (c .if1 .taken) in rw h

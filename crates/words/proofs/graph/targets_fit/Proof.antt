@@ -1,7 +1,7 @@
 -- Rows before s, and targets before c in row s, fit; the measures are what is left. Assumes nothing.
-use mathlib.Core.Path.{_≡_, sym, ap, _∙_}
+use mathlib.Core.Path.{_≡_, sym}
 use mathlib.Core.Bool.{true}
-use Prim.Native.Nat.{ℕ, _≤_, _<_, _-_, _+_, _*_}
+use Prim.Native.Nat.{ℕ, _≤_, _<_, _-_}
 use native.Mathlib.Omega.{arith}
 use native.Mathlib.Nat.{not-suc-le-zero}
 use borrow.Author.Count.{below-more}
@@ -12,20 +12,16 @@ use Rattle.graph_rules.specs.Graph.{targetFits}
 use Rattle.words.proofs.Fitting.{rows-fit, rows-unfit, tested}
 use Rattle.words.proofs.graph.targets_fit.Statement.{statement}
 use Rattle.words.proofs.graph.targets_fit.Tie as tie
-use Rattle.words.proofs.graph.targets_fit.Reads as reads
-use Rattle.words.proofs.graph.targets_fit.Lts as lts
-use Rattle.words.proofs.graph.place.Reads as place-reads
-use Rattle.words.proofs.graph.target_fits.Reads as target-fits-reads
-use Rattle.words.proofs.word.Reads as word-reads
+use Rattle.graph_rules.specs.Layout.{stepCount, graphPlace}
 
 abbrev Inv-loop2 : tie.InvT-loop2
-Inv-loop2 graph n s c₀ c = (c ≤ 257) × ((j : ℕ) → j < c → targetFits n (getD graph (2 + 258 * s + j) 0) ≡ true)
+Inv-loop2 graph n s c₀ c = (c ≤ stepCount) × ((j : ℕ) → j < c → targetFits n (getD graph (graphPlace s j) 0) ≡ true)
 
 abbrev μ-loop2 : tie.MeasureT-loop2
-μ-loop2 graph n s c₀ c = 257 - c
+μ-loop2 graph n s c₀ c = stepCount - c
 
 abbrev Inv-loop : tie.InvT-loop
-Inv-loop graph n s₀ s = (s ≤ n) × ((i : ℕ) → i < s → (j : ℕ) → j < 257 → targetFits n (getD graph (2 + 258 * i + j) 0) ≡ true)
+Inv-loop graph n s₀ s = (s ≤ n) × ((i : ℕ) → i < s → (j : ℕ) → j < stepCount → targetFits n (getD graph (graphPlace i j) 0) ≡ true)
 
 abbrev μ-loop : tie.MeasureT-loop
 μ-loop graph n s₀ s = n - s

@@ -5,10 +5,6 @@ use lib.ListN.{getD}
 use borrow.Author.Needs.{needs}
 use Rattle.words.proofs.graph.word.Statement.{statement}
 use Rattle.words.proofs.graph.word.Tie as tie
-use Rattle.words.proofs.graph.word.Reads as reads
-use Rattle.words.proofs.graph.word.Lts as lts
-use Rattle.words.proofs.graph.place.Reads as place-reads
-use Rattle.words.proofs.word.Reads as word-reads
 
 place-requires : tie.Need-place-requires
 place-requires c κs = search needs
