@@ -1,4 +1,4 @@
--- A graph fits its words: rows of 257 targets, each below the count; leaves below m; at most n states; a root that is a state, if there is one. Each of
+-- A graph fits its words: rows of a target for each step, each below the count; leaves below m; at most n states; a root that is a state, if there is one. Each of
 -- the rules 5 to 8 keeps it so, and the finished graph of a legal table fits. Assumes nothing.
 use mathlib.Core.Path.{_≡_, refl, sym, ap, _∙_}
 use mathlib.Core.Bool.{Bool}

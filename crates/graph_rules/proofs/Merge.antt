@@ -96,10 +96,10 @@ module _ (g : Graph) where
 
 -- ---- the rounds
 
-stops : (k : ℕ) (g : Graph) → mergesNone g ≡ true → mergeFor (suc k) g ≡ record { graph = g; rounds = 1 }
+pub stops : (k : ℕ) (g : Graph) → mergesNone g ≡ true → mergeFor (suc k) g ≡ record { graph = g; rounds = 1 }
 stops k g e = rw (e, mergeFor)
 
-goes-on : (k : ℕ) (g : Graph) → mergesNone g ≡ false → mergeFor (suc k) g ≡ oneMore (mergeFor k (mergeRound g))
+pub goes-on : (k : ℕ) (g : Graph) → mergesNone g ≡ false → mergeFor (suc k) g ≡ oneMore (mergeFor k (mergeRound g))
 goes-on k g e = rw (e, mergeFor)
 
 -- what a round keeps, the rounds keep
@@ -124,17 +124,14 @@ pub merged-path : (g : Graph) → ((s : ℕ) → s < length (g .states) → From
     → (i : ℕ) → i < length (merged g .graph .states) → FromRoot (merged g .graph) i
 merged-path g = merged-keep (λ x. (s : ℕ) → s < length (x .states) → FromRoot x s) round-path g
 
--- a round that does not merge none has fewer states
-fewer : (g : Graph) → mergesNone g ≡ false → length (mergeRound g .states) < length (g .states)
+-- a round that merges has fewer states
+pub round-fewer : (g : Graph) → mergesNone g ≡ false → length (mergeRound g .states) < length (g .states)
 unfolding mergesNone
-fewer g e =
+round-fewer g e =
     let a : length (distinct same (g .states)) ≤ length (g .states) = distinct-length same same-sound (g .states) in
-    let b = eqb-false (length (distinct same (g .states))) (length (g .states)) e in
-    let d : length (mergeRound g .states) ≡ length (distinct same (g .states)) = round-length g in
-    lt a b d
-  where
-    lt : {a b c : ℕ} → a ≤ b → (a ≡ b → ⊥) → c ≡ a → c < b
-    lt h n e = omega arith
+    let b : length (distinct same (g .states)) ≡ length (g .states) → ⊥ = eqb-false (length (distinct same (g .states))) (length (g .states)) e in
+    let c : length (mergeRound g .states) ≡ length (distinct same (g .states)) = round-length g in
+    omega (arith, b)
 
 rounds-none : (k : ℕ) (g : Graph) → length (g .states) < k → mergesNone (mergeFor k g .graph) ≡ true
 rounds-none zero g h = absurd (not-suc-le-zero h)
@@ -143,7 +140,7 @@ rounds-none (suc k) g h = go (is (mergesNone g)) (rounds-none k (mergeRound g))
     go : Is (mergesNone g) → (length (mergeRound g .states) < k → mergesNone (mergeFor k (mergeRound g) .graph) ≡ true)
         → mergesNone (mergeFor (suc k) g .graph) ≡ true
     go (yes-is q) f = rw (stops k g q) q
-    go (no-is q) f = rw (goes-on k g q) (f (let l = fewer g q in omega arith))
+    go (no-is q) f = rw (goes-on k g q) (f (let l = round-fewer g q in omega arith))
 
 -- the rounds were enough: one more would merge nothing
 pub merged-none : (g : Graph) → mergesNone (merged g .graph) ≡ true
@@ -168,7 +165,7 @@ rounds-bound (suc k) g = go (is (mergesNone g)) (rounds-bound k (mergeRound g))
     go : Is (mergesNone g) → mergeFor k (mergeRound g) .rounds + length (mergeFor k (mergeRound g) .graph .states) ≤ length (mergeRound g .states) + 1
         → mergeFor (suc k) g .rounds + length (mergeFor (suc k) g .graph .states) ≤ length (g .states) + 1
     go (yes-is q) f = rw (stops k g q) (omega arith)
-    go (no-is q) f = rw (goes-on k g q) (let l = fewer g q in omega arith)
+    go (no-is q) f = rw (goes-on k g q) (let l = round-fewer g q in omega arith)
 
 pub merged-rounds : (g : Graph) → merged g .rounds + length (merged g .graph .states) ≤ length (g .states) + 1
 unfolding merged

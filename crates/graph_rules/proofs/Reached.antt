@@ -69,7 +69,7 @@ reached-sound : (t : Table) (s₀ s : ℕ) → In (reached t s₀) s → Reach (
 unfolding reached
 reached-sound t s₀ s h = closure-sound (stepsTo t) (size t) (eqb s₀) s h
 
-edge-of : (s : ℕ) → (s ≡ 0 → ⊥) → edge s ≡ some s
+pub edge-of : (s : ℕ) → (s ≡ 0 → ⊥) → edge s ≡ some s
 edge-of zero z = absurd (z refl)
 edge-of (suc s) z = refl
 

@@ -152,7 +152,8 @@ module _ (w : List ℕ) (legal : refusal w ≡ 0) where
       ap (λ (x : ℕ). matchFits (tableOf w) (suc x)) (sym (getD-tab0 (getD w 3 0) (λ x. x) i 0 h))
       ∙ all-at (λ i. matchFits (tableOf w) (suc i)) (below (getD w 3 0)) i 0 a (rw (length-tab 0 (getD w 3 0) (λ x. x)) h)
 
-  head-fits : (s : ℕ) → rowOf (tableOf w) s .head ≤ getD w 3 0
+  -- a state past the last has the empty chain
+  pub head-fits : (s : ℕ) → rowOf (tableOf w) s .head ≤ getD w 3 0
   unfolding conditions rowOf countsFit emptiesFit targetsFit headsFit recordsFit
   head-fits s =
       let rows = tableOf w .rows in
