@@ -1,21 +1,23 @@
 -- Planning, a run and a scan on a store in a caller's block: they are the calls on the block's store, or, where the block is none, on a store that counts
 -- 65, which 15 refuses after 12 and 14. Assumes nothing.
-use mathlib.Core.Path.{_≡_, refl, sym, ap, _∙_}
-use mathlib.Core.Bool.{Bool, true, false}
+use mathlib.Core.Path.{_≡_, refl, sym, ap}
+use mathlib.Core.Bool.{Bool, false}
 use mathlib.Core.List.{List}
-use Prim.Native.Nat.{ℕ, _+_, _≤_}
-use native.Mathlib.Omega.{arith}
-use borrow.Author.Tests.{eq-eqb, ne-eqb, leb-true}
-use lib.Dec.{eqb, leb, ltb}
-use lib.ListN.{length, drop, replicate, length-drop}
-use Rattle.lists.proofs.Bools.{Is, yes-is, no-is, is, and-both}
+use Prim.Native.Nat.{ℕ}
+use borrow.Author.Tests.{eq-eqb, ne-eqb}
+use lib.Dec.{eqb, ltb}
+use lib.ListN.{length, replicate}
+use Rattle.lists.proofs.Bools.{Is, yes-is, no-is, is}
 use Rattle.graph_rules.specs.Graph.{graphFrom, graphFits}
 use Rattle.readings.specs.declared.read.Read.{Read}
 use Rattle.readings.specs.declared.read.Read.the-variants.{Refused}
 use Rattle.classes.specs.Classes.{Class}
 use Rattle.mask_store.specs.declared.MaskStore.{MaskStore}
-use Rattle.mask_store.specs.Masks.{storeOf, held, heldWith, grown, allowed, takes}
-use Rattle.mask_store.proofs.Growth.{length-all}
+use Rattle.mask_store.specs.Masks.{storeOf, allowed, takes}
+use Rattle.mask_store.proofs.Growth.{grown-size}
+use Rattle.plan_rules.proofs.OwnStore.{needs-whole}
+use Rattle.plan_rules.proofs.RunIsWalk.{takes-few}
+use Rattle.planning.proofs.StoreAfter.{Left, unchanged, has-grown, left-by}
 use Rattle.plan_rules.specs.Plan.{base, needs, planSize}
 use Rattle.scans.specs.declared.scan.Scan.{Scan}
 use Rattle.scans.specs.List.{ScanList, noList}
@@ -27,25 +29,12 @@ use Rattle.capi.specs.Plans.{noStore, noStoreScan, planIn, runIn, listIn
 
 -- ---- the store that planning leaves
 
-grown-size : (s : MaskStore) (cs : List Class) → length (s .tables) ≡ 2048 → takes s cs ≡ true → length (grown s cs .tables) ≡ 2048
-unfolding takes allowed grown
-grown-size s cs e t =
-    let few = and-both (allowed s) _ t in
-    let counted : s .count ≤ 64 = leb-true _ _ (and-both (leb (s .count) 64) _ (few .0) .0) in
-    let room : length (heldWith s cs) ≤ 64 = leb-true _ _ (few .1) in
-    let rest = length-drop (s .count) (heldWith s cs) in
-    length-all (s .tables) (s .count) (drop (s .count) (heldWith s cs)) e (omega arith)
-
 plan-size : (graph plan : List ℕ) (s : MaskStore) → length (s .tables) ≡ 2048 → length (planCall base graph plan s .planning .store .tables) ≡ 2048
-unfolding planCall
-plan-size graph plan s e = go (is (graphFits graph)) (is (ltb (length plan) (planSize base (graphFrom graph)))) (is (takes s (needs base (graphFrom graph))))
+plan-size graph plan s e = go (planCall base graph plan s .planning .store) (left-by base graph plan s)
   where
-    go : Is (graphFits graph) → Is (ltb (length plan) (planSize base (graphFrom graph))) → Is (takes s (needs base (graphFrom graph)))
-        → length (planCall base graph plan s .planning .store .tables) ≡ 2048
-    go (no-is f) p t = rw f e
-    go (yes-is f) (yes-is p) t = rw (f, p) e
-    go (yes-is f) (no-is p) (no-is t) = rw (f, p, t) e
-    go (yes-is f) (no-is p) (yes-is t) = rw (f, p, t) (grown-size s (needs base (graphFrom graph)) e t)
+    go : (after : MaskStore) → Left base graph s after → length (after .tables) ≡ 2048
+    go after unchanged = e
+    go after (has-grown f t) = grown-size s (needs base (graphFrom graph)) e (needs-whole base graph f) (takes-few base (graphFrom graph) s t)
 
 -- ---- the store that stands for a block that is none
 

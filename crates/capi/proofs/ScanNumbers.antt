@@ -1,4 +1,4 @@
--- A scan's number tells the scan, and a call that refuses leaves it as found: each refusal of `next`, of `scan_list` and of `scan_planned` hands back
+-- A scan's number tells the scan, and a call that refuses leaves it unchanged: each refusal of `next`, of `scan_list` and of `scan_planned` hands back
 -- the scan that came in, whose number is the one that came in. Assumes nothing.
 use mathlib.Core.Path.{_≡_, refl, sym, ap, _∙_}
 use mathlib.Core.List.{List}
@@ -20,7 +20,7 @@ use Rattle.graph_rules.specs.Read.{readGraph}
 use Rattle.scans.specs.Scan.{readingAt, hasEnded, scanReport, entryOf, scannedBy, scanFrom, scanAt, scanOf as scannedOf, next}
 use Rattle.mask_store.specs.declared.MaskStore.{MaskStore}
 use Rattle.plan_rules.specs.Plan.{base}
-use Rattle.scans.specs.List.{Listing, ScanList, listFor, listReport, unlessRefused, scanList}
+use Rattle.scans.specs.List.{entrySize, Listing, ScanList, listFor, listReport, unlessRefused, scanList}
 use Rattle.plans.specs.Run.{plannedRefusal, plannedList}
 use Rattle.capi.specs.Plans.{listIn}
 use Rattle.capi.specs.Scans.{ended, scanOf, numberOf}
@@ -92,7 +92,7 @@ list-keeps graph text buffer s refused = go (is (graphFits graph))
     told (Refused n) l r = refl
 
     go : Is (graphFits graph) → scanList graph text s buffer .listed .scan ≡ s
-    go (yes-is q) = rw (q, scanList) (told (scannedOf (graphFrom graph) text s .answer) (listFor (graphFrom graph) text (length buffer / 3) s) (rw (q, scanList) at refused))
+    go (yes-is q) = rw (q, scanList) (told (scannedOf (graphFrom graph) text s .answer) (listFor (graphFrom graph) text (length buffer / entrySize) s) (rw (q, scanList) at refused))
     go (no-is q) = rw (q, scanList)
 
 planned-keeps : (graph plan text buffer : List ℕ) (store : MaskStore) (s : Scan)

@@ -16,7 +16,7 @@ isFlag bytes b = not (eqb (getD bytes b 0) 0)
 unfoldable pub flagsOf : List ℕ → Class
 flagsOf bytes = tab 0 256 (isFlag bytes)
 
--- ---- bytes handed out in a block: they stand at its front, and the rest is as found; a block that is too short gets 255, and is as found
+-- ---- bytes handed out in a block: they stand at its front, and the rest is unchanged; a block that is too short gets 255, and is unchanged
 
 -- a refusal, 0 for none, and the block after the call
 pub record Put : Type 0 where

@@ -17,7 +17,7 @@ use Rattle.scans.specs.Scan.{past}
 use Rattle.plans.specs.Run.{runCall, plannedList}
 use Rattle.capi.specs.Stores.{isStore}
 
--- of graph words that 12 takes
+-- of well-formed graph words (refusal 12)
 abbrev pub shortOr15 : List ℕ → List ℕ → ℕ
 shortOr15 graph plan = cond (ltb (length plan) (planSize base (graphFrom graph))) 14 15
 

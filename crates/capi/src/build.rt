@@ -1,7 +1,6 @@
 // The build of a table's graph, and the conflicts that it finds.
 ghost use mathlib.Core.Path.{_≡_};
 ghost use mathlib.Core.List.{[], _∷_};
-ghost use Rattle.lists.specs.Report.{Report};
 ghost use Rattle.graph.specs.New.{builtReport, newOf, imageOf};
 use graph::new::BuildAnswer;
 

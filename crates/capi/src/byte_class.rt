@@ -2,7 +2,6 @@
 // another.
 ghost use mathlib.Core.Path.{_≡_};
 ghost use mathlib.Core.List.{[], _∷_, _++_};
-ghost use Rattle.lists.specs.Report.{Report};
 ghost use Rattle.classes.specs.Classes.{cost};
 ghost use Rattle.capi.specs.Lent.{flagsOf, put, putReport};
 ghost use Rattle.capi.specs.Parts.{rangesOf, rangeBytes, cmpOf, cmpBytes};

@@ -4,7 +4,6 @@ ghost use mathlib.Core.List.{[], _∷_};
 ghost use Prim.Native.Nat.{_+_, _≤_};
 ghost use lib.ListN.{length};
 ghost use lib.Seq.{sets};
-ghost use Rattle.lists.specs.Report.{Report};
 ghost use Rattle.capi.specs.Lent.{isFlag, flagsOf, put, putReport};
 
 // Whether entry b is there and not 0.
@@ -19,7 +18,7 @@ fn is_flag(flags: &[u8], b: usize) -> bool
 }
 
 // The class of lent bytes.
-pub fn flags_of(flags: &[u8]) -> [bool; 256]
+pub(crate) fn flags_of(flags: &[u8]) -> [bool; 256]
     ensures { λ r. ⌜ r ≡ flagsOf (now (flags .entry)) ⌝ }
 {
     let mut class = [false; 256];
@@ -30,7 +29,7 @@ pub fn flags_of(flags: &[u8]) -> [bool; 256]
 }
 
 // The bytes written from a place on.
-pub fn write(bytes: &[u8], out: &mut [u8], at: usize)
+pub(crate) fn write(bytes: &[u8], out: &mut [u8], at: usize)
     requires { ⌜ at + length (now bytes) ≤ length (now out) ⌝ }
     ensures { λ _. ⌜ now (out .exit) ≡ sets (now (out .entry)) at (now (bytes .entry)) ⌝ }
 {
@@ -39,8 +38,8 @@ pub fn write(bytes: &[u8], out: &mut [u8], at: usize)
     }
 }
 
-// The bytes handed out in a lent block, or 255, and the block as it was.
-pub fn put(bytes: &[u8], block: &mut [u8]) -> u8
+// The bytes handed out in a lent block, or 255, and the block unchanged.
+pub(crate) fn put(bytes: &[u8], block: &mut [u8]) -> u8
     ensures { λ r. ⌜ (r ≡ put (now (bytes .entry)) (now (block .entry)) .refusal) × (now (block .exit) ≡ put (now (bytes .entry)) (now (block .entry)) .block) ⌝ }
 {
     if block.len() < bytes.len() {
@@ -51,7 +50,7 @@ pub fn put(bytes: &[u8], block: &mut [u8]) -> u8
 }
 
 // The same with a count beside the bytes.
-pub fn put_counted(bytes: &[u8], n: usize, block: &mut [u8], count: &mut usize) -> u8
+pub(crate) fn put_counted(bytes: &[u8], n: usize, block: &mut [u8], count: &mut usize) -> u8
     ensures { λ r. ⌜ putReport (put (now (bytes .entry)) (now (block .entry))) n ≡ record { refusal = r; values = now (count .exit) ∷ [] } ⌝ }
     ensures { λ _. ⌜ now (block .exit) ≡ put (now (bytes .entry)) (now (block .entry)) .block ⌝ }
 {

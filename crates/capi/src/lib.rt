@@ -7,7 +7,7 @@
 
 pub mod build;
 pub mod byte_class;
-pub mod lent;
+mod lent;
 pub mod masks;
 pub mod plan;
 pub mod priorities;

@@ -2,7 +2,6 @@
 ghost use mathlib.Core.Path.{_≡_};
 ghost use mathlib.Core.List.{[], _∷_};
 ghost use lib.ListN.{length};
-ghost use Rattle.lists.specs.Report.{Report};
 ghost use Rattle.mask_store.specs.Masks.{storeOf, addReport};
 ghost use Rattle.capi.specs.Lent.{flagsOf};
 ghost use Rattle.capi.specs.Stores.{storeIn, addTo, flat, renderTo};
@@ -23,7 +22,7 @@ fn store_of(tables: &[u8], count: usize) -> MaskStore
 }
 
 // The store of a block; one that 15 refuses, since it counts over 64, for a block of another length.
-pub fn store_in(tables: &[u8], count: usize) -> MaskStore
+pub(crate) fn store_in(tables: &[u8], count: usize) -> MaskStore
     ensures { λ r. ⌜ r ≡ storeIn (now (tables .entry)) count ⌝ }
 {
     if tables.len() != 2048 {

@@ -1,7 +1,6 @@
 // Planning a graph on the mask store that the caller holds.
 ghost use mathlib.Core.Path.{_≡_};
 ghost use mathlib.Core.List.{[], _∷_};
-ghost use Rattle.lists.specs.Report.{Report};
 ghost use Rattle.planning.specs.Plan.{planReport};
 ghost use Rattle.capi.specs.Plans.{planIn};
 use plans::plan::PlanAnswer;

@@ -1,7 +1,6 @@
 // A pattern tree: its priority, and the greedy test.
 ghost use mathlib.Core.Path.{_≡_};
 ghost use mathlib.Core.List.{[], _∷_};
-ghost use Rattle.lists.specs.Report.{Report};
 ghost use Rattle.pattern.specs.Priority.{priorityOf, priorityReport, greedyOf, greedyReport};
 use pattern::GreedyAnswer;
 use pattern::PriorityAnswer;

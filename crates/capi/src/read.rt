@@ -1,7 +1,6 @@
 // The readings of a text.
 ghost use mathlib.Core.Path.{_≡_};
 ghost use mathlib.Core.List.{[], _∷_};
-ghost use Rattle.lists.specs.Report.{Report};
 ghost use Rattle.readings.specs.Answers.{readReport, graphRead, tableRead};
 ghost use Rattle.capi.specs.Plans.{runIn};
 use graph::read::Read;

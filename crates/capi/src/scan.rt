@@ -1,7 +1,6 @@
 // The scan, which is held by the caller as one number.
 ghost use mathlib.Core.Path.{_≡_};
 ghost use mathlib.Core.List.{[], _∷_};
-ghost use Rattle.lists.specs.Report.{Report};
 ghost use Rattle.scans.specs.Scan.{scanReport, next};
 ghost use Rattle.scans.specs.List.{listReport, scanList};
 ghost use Rattle.capi.specs.Plans.{listIn};

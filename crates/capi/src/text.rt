@@ -1,7 +1,6 @@
 // The text of a graph, and the lines of its conflicts.
 ghost use mathlib.Core.Path.{_≡_};
 ghost use mathlib.Core.List.{[], _∷_};
-ghost use Rattle.lists.specs.Report.{Report};
 ghost use Rattle.display.specs.Answers.{shownReport, displayCall, lineCall};
 use display::Shown;
 

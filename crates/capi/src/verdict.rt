@@ -1,7 +1,6 @@
 // Whether a table is clean.
 ghost use mathlib.Core.Path.{_≡_};
 ghost use mathlib.Core.List.{[], _∷_};
-ghost use Rattle.lists.specs.Report.{Report};
 ghost use Rattle.clean.specs.Answers.{cleanReport, cleanOf};
 use clean::Verdict;
 

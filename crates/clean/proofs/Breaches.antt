@@ -10,7 +10,6 @@ use borrow.Author.Tests.{eq-eqb, ne-eqb}
 use lib.Dec.{leb}
 use lib.ListN.{length, getD, replicate}
 use Rattle.lists.specs.Lists.{below, those, select, sorted}
-use Rattle.lists.proofs.Bools.{Is, is, yes-is, no-is}
 use Rattle.lists.proofs.Sorted.{sorted-length}
 use Rattle.graph_rules.specs.Table.{Table, tableOf, refusal, size}
 use Rattle.graph_rules.specs.Graph.{orNone}
@@ -20,17 +19,10 @@ use Rattle.graph_rules.proofs.Shape.{legal-shaped, size-is}
 use Rattle.graph_rules.proofs.Unpruned.{reached-length}
 use Rattle.clean.specs.declared.Verdict.the-variants.{Refused}
 use Rattle.clean.specs.Answers.{verdict, cleanOf}
-use Rattle.clean.specs.Held.{lowest}
+use Rattle.clean.specs.Held.{lowestIn}
+use Rattle.lists.proofs.Those.{those-map}
 use Rattle.clean.proofs.Lowest.{lowest-padded}
 use Rattle.graph_rules.specs.Layout.{noState, mostStates}
-
-those-map : {A : Type 0} (p : A → Bool) (f : ℕ → A) (l : List ℕ) → those p (map f l) ≡ map f (those (λ x. p (f x)) l)
-those-map p f [] = refl
-those-map {A} p f (x ∷ l) = go (is (p (f x))) (those-map p f l)
-  where
-    go : Is (p (f x)) → those p (map f l) ≡ map f (those (λ x. p (f x)) l) → those p (f x ∷ map f l) ≡ map f (those (λ x. p (f x)) (x ∷ l))
-    go (yes-is q) e = rw (q, those) (ap {B = List A} (λ r. f x ∷ r) e)
-    go (no-is q) e = rw (q, those) e
 
 module _ (t : Table) where
   -- ---- rule 1
@@ -100,17 +92,17 @@ module _ (t : Table) where
 
 module _ (w : List ℕ) (legal : refusal w ≡ 0) (s : ℕ) (st : tableOf w .start ≡ some s) (set : List Bool)
     (at : set ≡ reached (tableOf w) s ++ replicate (mostStates - getD w 0 0) false) where
-  lowest-states : (p : ℕ → Bool) → lowest w set p ≡ first (those p (select (reached (tableOf w) s) (below (size (tableOf w)))))
+  lowest-states : (p : ℕ → Bool) → lowestIn w set p ≡ first (those p (select (reached (tableOf w) s) (below (size (tableOf w)))))
   lowest-states p =
       let n = size-is w legal in
-      ap (λ (x : List Bool). lowest w x p) at
+      ap (λ (x : List Bool). lowestIn w x p) at
       ∙ lowest-padded w (reached (tableOf w) s) (mostStates - getD w 0 0) p (reached-length (tableOf w) (legal-shaped w legal) s st ∙ n)
       ∙ ap (λ (k : ℕ). first (those p (select (reached (tableOf w) s) (below k)))) (sym n)
 
-  pub error-found : emptyLeaves (tableOf w) ≡ [] → (r : ℕ) → orNone noState r ≡ lowest w set (tied (tableOf w)) → errorAt (tableOf w) ≡ orNone noState r
+  pub error-found : emptyLeaves (tableOf w) ≡ [] → (r : ℕ) → orNone noState r ≡ lowestIn w set (tied (tableOf w)) → errorAt (tableOf w) ≡ orNone noState r
   error-found none-empty r e = error-ties (tableOf w) s st none-empty ∙ sym (e ∙ lowest-states (tied (tableOf w)))
 
-  pub end-found : (r : ℕ) → orNone noState r ≡ lowest w set (endless (tableOf w)) → endAt (tableOf w) ≡ orNone noState r
+  pub end-found : (r : ℕ) → orNone noState r ≡ lowestIn w set (endless (tableOf w)) → endAt (tableOf w) ≡ orNone noState r
   end-found r e = end-place (tableOf w) s st ∙ sym (e ∙ lowest-states (endless (tableOf w)))
 
 -- ---- the call

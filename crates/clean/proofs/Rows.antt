@@ -1,6 +1,6 @@
--- The rules on the words of a legal table: state 0 is dead just if its 258 words are 0 (rule 2); the leaf of all that a state's bytes lead to, from the
+-- The rules on the words of a legal table: state 0 is dead just if all words of its row are 0 (rule 2); the leaf of all that a state's bytes lead to, from the
 -- leaf of each (rule 3). Assumes nothing.
-use mathlib.Core.Path.{_≡_, refl, sym, ap, _∙_}
+use mathlib.Core.Path.{_≡_, refl, sym, ap, subst, _∙_}
 use mathlib.Core.Bool.{true, false, not, _&&_}
 use mathlib.Core.List.{List}
 use mathlib.Core.Option.{Option, none}
@@ -16,14 +16,14 @@ use Rattle.lists.proofs.Elements.{all-at, all-intro}
 use Rattle.lists.proofs.Judged.{Judged}
 use Rattle.graph_rules.specs.Table.{Table, tableOf, refusal, size, rowOf, step}
 use Rattle.graph_rules.specs.Graph.{orNone}
-use Rattle.graph_rules.specs.Build.{chain, leafOf, present}
+use Rattle.graph_rules.specs.Build.{chain, present}
 use Rattle.graph_rules.specs.Clean.{zeroDead, bytesLeaf, endless}
 use Rattle.graph_rules.proofs.Agreed.{agreed-all, agreed-none}
 use Rattle.graph_rules.proofs.Cleanness.{byteLeaves, byte-leaves, byte-leaf}
 use Rattle.graph_rules.proofs.Flat.{step-word, head-word}
 use Rattle.graph_rules.proofs.Nones.{or-none, or-same}
-use Rattle.graph_rules.proofs.Shape.{legal-shaped, legal-width, size-is}
-use Rattle.graph_rules.specs.Layout.{endStep, stepCount, noLeaf, tableRow, headPlace, mostLeaves, rowPlace}
+use Rattle.graph_rules.proofs.Shape.{legal-shaped, legal-width, legal-step, size-is}
+use Rattle.graph_rules.specs.Layout.{endStep, stepCount, noLeaf, tableRow, headPlace, rowPlace}
 use Rattle.legal.proofs.Legal.{legal-means}
 use Rattle.clean.specs.Held.{LeavesOf}
 use Rattle.clean.proofs.Ties.{chain-none, chain-head}
@@ -64,19 +64,16 @@ module _ (w : List ℕ) (legal : refusal w ≡ 0) where
   -- ---- rule 3
 
   module _ (leaf : List ℕ) (held : LeavesOf w leaf) (s : ℕ) (h : s < getD w 0 0) where
-    -- the leaf, 255 for none, of the state that byte b leads to
+    -- the leaf, or the word for none, of the state that byte b leads to
     abbrev pub leafBy : ℕ → ℕ
-    leafBy b = getD leaf (getD w (rowPlace (getD w 2 0) s b) 0) 0
-
-    pub by-low : (b : ℕ) → b < 256 → getD w (rowPlace (getD w 2 0) s b) 0 < getD w 0 0
-    by-low b k = legal-means w legal .targets s b h (omega arith)
+    leafBy b = getD leaf (step t s b) 0
 
     inside : s < size t
     inside = rw (size-is w legal) h
 
     by-leaf : (b : ℕ) → b < 256 → orNone noLeaf (leafBy b) ≡ getD (byteLeaves t (legal-shaped w legal) s inside) b none
     by-leaf b k =
-        held _ (by-low b k) ∙ ap (leafOf t) (sym (step-word w s b h (omega arith))) ∙ sym (byte-leaf t (legal-shaped w legal) s inside b k)
+        held _ (subst (λ (n : ℕ). step t s b < n) (size-is w legal) (legal-step w legal s b inside)) ∙ sym (byte-leaf t (legal-shaped w legal) s inside b k)
 
     pub bytes-same : ((b : ℕ) → b < 256 → leafBy b ≡ leafBy 0) → orNone noLeaf (leafBy 0) ≡ bytesLeaf t s
     unfolding bytesLeaf
@@ -93,19 +90,16 @@ module _ (w : List ℕ) (legal : refusal w ≡ 0) where
         ∙ sym (agreed-none (byteLeaves t (legal-shaped w legal) s inside) b (omega arith)
         (λ q. d (or-same noLeaf (leafBy b) (leafBy 0) (by-leaf b k ∙ q ∙ sym (by-leaf 0 (omega arith))))))
 
-  -- by the end step's word, and the leaf of all that the bytes lead to
-  module _ (s : ℕ) (h : s < getD w 0 0) where
-    end-word : step t s endStep ≡ getD w (rowPlace (getD w 2 0) s endStep) 0
-    end-word = step-word w s endStep h (omega arith)
+-- by the end step's target r, and the leaf of all that the bytes lead to
+module _ (t : Table) (s r : ℕ) (e : r ≡ step t s endStep) where
+  pub endless-not : (r ≡ 0 → ⊥) → endless t s ≡ false
+  unfolding endless
+  endless-not n = and-right-false (present (bytesLeaf t s)) _ (ne-eqb (step t s endStep) 0 (λ q. n (e ∙ q)))
 
-    pub endless-not : (getD w (rowPlace (getD w 2 0) s endStep) 0 ≡ 0 → ⊥) → endless t s ≡ false
-    unfolding endless
-    endless-not n = and-right-false (present (bytesLeaf t s)) _ (ne-eqb (step t s endStep) 0 (λ e. n (sym end-word ∙ e)))
-
-    pub endless-leaf : getD w (rowPlace (getD w 2 0) s endStep) 0 ≡ 0 → (r : ℕ) → orNone noLeaf r ≡ bytesLeaf t s → not (eqb r mostLeaves) ≡ endless t s
-    unfolding endless
-    endless-leaf z r at = go (is (eqb r noLeaf)) ∙ ap (λ (o : Option ℕ). present o && eqb (step t s endStep) 0) at
-      where
-        go : Is (eqb r noLeaf) → not (eqb r noLeaf) ≡ (present (orNone noLeaf r) && eqb (step t s endStep) 0)
-        go (yes-is q) = rw q
-        go (no-is q) = rw q (sym (eq-eqb (step t s endStep) 0 (end-word ∙ z)))
+  pub endless-leaf : r ≡ 0 → (l : ℕ) → orNone noLeaf l ≡ bytesLeaf t s → not (eqb l noLeaf) ≡ endless t s
+  unfolding endless
+  endless-leaf z l at = go (is (eqb l noLeaf)) ∙ ap (λ (o : Option ℕ). present o && eqb (step t s endStep) 0) at
+    where
+      go : Is (eqb l noLeaf) → not (eqb l noLeaf) ≡ (present (orNone noLeaf l) && eqb (step t s endStep) 0)
+      go (yes-is q) = rw q
+      go (no-is q) = rw q (sym (eq-eqb (step t s endStep) 0 (sym e ∙ z)))

@@ -4,72 +4,59 @@
 ghost use mathlib.Core.Path.{_≡_};
 ghost use mathlib.Core.List.{[]};
 ghost use mathlib.Core.Option.{some};
-ghost use Prim.Native.Nat.{_<_};
+ghost use Prim.Native.Nat.{_≤_, _<_};
 ghost use lib.ListN.{getD};
 ghost use Rattle.graph_rules.specs.Table.{tableOf, refusal};
 ghost use Rattle.graph_rules.specs.Graph.{orNone};
 ghost use Rattle.graph_rules.specs.Build.{emptyLeaves};
 ghost use Rattle.graph_rules.specs.Clean.{breach, tied, zeroDead, bytesLeaf, endless};
 ghost use Rattle.clean.specs.Answers.{verdict, cleanOf};
-ghost use Rattle.clean.specs.Held.{LeavesOf, lowest};
+ghost use Rattle.clean.specs.Held.{LeavesOf, broken, lowestIn};
+ghost use Rattle.graph_rules.specs.Layout.{noState, noLeaf};
+use legal::step;
+use words::END;
+use words::NONE;
+use words::STATES;
+use words::graph::NO_LEAF;
+use words::table::ROW;
 use words::table::leaves;
 use words::table::row_word;
 use words::table::start;
 use words::table::states;
-ghost use Rattle.graph_rules.specs.Layout.{noState, noLeaf};
 
-// Clean; or the rule, 1 to 3, that the table breaks first, and the lowest state where, 65,535 if the breach belongs to no state; or 1 to 7.
+// Clean; or the rule, 1 to 3, that the table breaks first, and the lowest state where, NONE if the breach belongs to no state; or 1 to 7.
 pub enum Verdict {
     Clean,
     Breaks(u16, u16),
     Refused(u8),
 }
 
-// Each state's leaf; 255 if it has none.
-fn leaves_of(table: &[u16]) -> [u8; 1024]
+// Each state's leaf; NO_LEAF if it has none.
+fn leaves_of(table: &[u16]) -> [usize; STATES]
     requires { ⌜ refusal (now table) ≡ 0 ⌝ }
     ensures { λ r. ⌜ LeavesOf (now (table .entry)) r ⌝ }
 {
     let n = states(table);
-    let mut out = [255u8; 1024];
+    let mut out = [NO_LEAF; STATES];
     let mut s: usize = 0;
     while s < n {
-        out[s] = leaves::leaf_of(table, s) as u8;
+        out[s] = leaves::leaf_of(table, s);
         s += 1;
     }
     out
 }
 
 // Whether several leaves share the highest priority in state s's chain: it is not empty, and the state has no leaf.
-fn tied(table: &[u16], leaf: &[u8; 1024], s: usize) -> bool
+fn tied(table: &[u16], leaf: &[usize; STATES], s: usize) -> bool
     requires { ⌜ refusal (now table) ≡ 0 ⌝ }
     requires { ⌜ LeavesOf (now table) (now leaf) ⌝ }
     requires { ⌜ s < getD (now table) 0 0 ⌝ }
     ensures { λ r. ⌜ r ≡ tied (tableOf (now (table .entry))) s ⌝ }
 {
-    if leaf[s] != 255 {
+    if leaf[s] != NO_LEAF {
         return false;
     }
     leaves::head(table, s) != 0
-}
-
-// The lowest state of a set that is tied; 65,535 if none is.
-fn lowest_tied(table: &[u16], leaf: &[u8; 1024], set: &[bool; 1024]) -> u16
-    requires { ⌜ refusal (now table) ≡ 0 ⌝ }
-    requires { ⌜ LeavesOf (now table) (now leaf) ⌝ }
-    ensures { λ r. ⌜ orNone noState r ≡ lowest (now (table .entry)) (now (set .entry)) (tied (tableOf (now (table .entry)))) ⌝ }
-{
-    let mut found: u16 = 65535;
-    let mut s = states(table);
-    while 0 < s {
-        s -= 1;
-        if set[s] {
-            if tied(table, leaf, s) {
-                found = s as u16;
-            }
-        }
-    }
-    found
 }
 
 // Whether state 0 has an empty chain and all its steps lead to 0.
@@ -79,7 +66,7 @@ fn zero_dead(table: &[u16]) -> bool
 {
     let m = leaves(table);
     let mut c: usize = 0;
-    while c < 258 {
+    while c < ROW {
         if row_word(table, m, 0, c) != 0 {
             return false;
         }
@@ -88,19 +75,18 @@ fn zero_dead(table: &[u16]) -> bool
     true
 }
 
-// The leaf of all states that the bytes lead to from state s; 255 if one has none or two differ.
-fn bytes_leaf(table: &[u16], leaf: &[u8; 1024], s: usize) -> u8
+// The leaf of all states that the bytes lead to from state s; NO_LEAF if one has none or two differ.
+fn bytes_leaf(table: &[u16], leaf: &[usize; STATES], s: usize) -> usize
     requires { ⌜ refusal (now table) ≡ 0 ⌝ }
     requires { ⌜ LeavesOf (now table) (now leaf) ⌝ }
     requires { ⌜ s < getD (now table) 0 0 ⌝ }
     ensures { λ r. ⌜ orNone noLeaf r ≡ bytesLeaf (tableOf (now (table .entry))) s ⌝ }
 {
-    let m = leaves(table);
-    let first = leaf[row_word(table, m, s, 0)];
+    let first = leaf[step(table, s, 0)];
     let mut b: usize = 1;
-    while b < 256 {
-        if leaf[row_word(table, m, s, b)] != first {
-            return 255;
+    while b < END {
+        if leaf[step(table, s, b)] != first {
+            return NO_LEAF;
         }
         b += 1;
     }
@@ -108,31 +94,44 @@ fn bytes_leaf(table: &[u16], leaf: &[u8; 1024], s: usize) -> u8
 }
 
 // Whether the bytes of state s all lead to one leaf, and no end step to a state other than 0.
-fn endless(table: &[u16], leaf: &[u8; 1024], s: usize) -> bool
+fn endless(table: &[u16], leaf: &[usize; STATES], s: usize) -> bool
     requires { ⌜ refusal (now table) ≡ 0 ⌝ }
     requires { ⌜ LeavesOf (now table) (now leaf) ⌝ }
     requires { ⌜ s < getD (now table) 0 0 ⌝ }
     ensures { λ r. ⌜ r ≡ endless (tableOf (now (table .entry))) s ⌝ }
 {
-    if row_word(table, leaves(table), s, 256) != 0 {
+    if step(table, s, END) != 0 {
         return false;
     }
-    bytes_leaf(table, leaf, s) != 255
+    bytes_leaf(table, leaf, s) != NO_LEAF
 }
 
-// The lowest state of a set that is endless; 65,535 if none is.
-fn lowest_endless(table: &[u16], leaf: &[u8; 1024], set: &[bool; 1024]) -> u16
+// Whether state s breaks rule 3, if `end`, or else rule 1: it is endless, or tied.
+fn breaks(table: &[u16], leaf: &[usize; STATES], s: usize, end: bool) -> bool
     requires { ⌜ refusal (now table) ≡ 0 ⌝ }
     requires { ⌜ LeavesOf (now table) (now leaf) ⌝ }
-    ensures { λ r. ⌜ orNone noState r ≡ lowest (now (table .entry)) (now (set .entry)) (endless (tableOf (now (table .entry)))) ⌝ }
+    requires { ⌜ s < getD (now table) 0 0 ⌝ }
+    ensures { λ r. ⌜ r ≡ broken end (tableOf (now (table .entry))) s ⌝ }
 {
-    let mut found: u16 = 65535;
+    if end {
+        return endless(table, leaf, s);
+    }
+    tied(table, leaf, s)
+}
+
+// The lowest state of a set that breaks that rule; NONE if none does.
+fn lowest_broken(table: &[u16], leaf: &[usize; STATES], set: &[bool; STATES], end: bool) -> usize
+    requires { ⌜ refusal (now table) ≡ 0 ⌝ }
+    requires { ⌜ LeavesOf (now table) (now leaf) ⌝ }
+    ensures { λ r. ⌜ (orNone noState r ≡ lowestIn (now (table .entry)) (now (set .entry)) (broken end (tableOf (now (table .entry))))) × (r ≤ noState) ⌝ }
+{
+    let mut found = NONE;
     let mut s = states(table);
     while 0 < s {
         s -= 1;
         if set[s] {
-            if endless(table, leaf, s) {
-                found = s as u16;
+            if breaks(table, leaf, s, end) {
+                found = s;
             }
         }
     }
@@ -148,16 +147,16 @@ fn judged(table: &[u16], start: usize) -> Verdict
 {
     let set = reach::reached(table, start);
     let leaf = leaves_of(table);
-    let tie = lowest_tied(table, &leaf, &set);
-    if tie != 65535 {
-        return Verdict::Breaks(1, tie);
+    let tie = lowest_broken(table, &leaf, &set, false);
+    if tie != NONE {
+        return Verdict::Breaks(1, tie as u16);
     }
     if !zero_dead(table) {
         return Verdict::Breaks(2, 0);
     }
-    let end = lowest_endless(table, &leaf, &set);
-    if end != 65535 {
-        return Verdict::Breaks(3, end);
+    let end = lowest_broken(table, &leaf, &set, true);
+    if end != NONE {
+        return Verdict::Breaks(3, end as u16);
     }
     Verdict::Clean
 }
@@ -171,11 +170,11 @@ pub fn clean(table: &[u16]) -> Verdict
         return Verdict::Refused(refusal as u8);
     }
     let s = start(table);
-    if s == 65535 {
-        return Verdict::Breaks(1, 65535);
+    if s == NONE {
+        return Verdict::Breaks(1, NONE as u16);
     }
-    if legal::count_empty(table) != 0 {
-        return Verdict::Breaks(1, 65535);
+    if conflicts::count_empty(table) != 0 {
+        return Verdict::Breaks(1, NONE as u16);
     }
     judged(table, s)
 }

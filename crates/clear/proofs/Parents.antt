@@ -1,18 +1,17 @@
 -- Rule 6: a pass over all edges finds the states that some parent does not cover. Assumes nothing.
 use mathlib.Core.Path.{_≡_, sym, ap, subst, _∙_}
 use mathlib.Core.Bool.{Bool, true, false, not, _||_, false≢true}
-use mathlib.Core.List.{List, _++_, map}
+use mathlib.Core.List.{List}
 use mathlib.Core.Option.{some}
 use mathlib.Core.Logic.{inl, inr, ⊎-elim}
-use Prim.Native.Nat.{ℕ, _+_, _-_, _≤_, _<_}
+use Prim.Native.Nat.{ℕ, _+_, _<_}
 use native.Mathlib.Omega.{arith}
-use lib.ListN.{length, getD, set, replicate, length-map, length-set, length-replicate, List·getD-eq-default}
+use lib.ListN.{length, getD, set, replicate, length-set, length-replicate}
 use lib.Seq.{getD-set-same}
 use Rattle.lists.specs.Sets.{In}
-use Rattle.lists.specs.Lists.{eqOption, below}
-use Rattle.lists.proofs.Bools.{Is, is, yes-is, no-is, or-left, or-right, some-inj, lt-or-le}
-use Rattle.lists.proofs.Elements.{all-intro, all-false, getD-tab0, length-tab, map-at}
-use Rattle.lists.proofs.Padding.{padded, padding-at}
+use Rattle.lists.specs.Lists.{eqOption}
+use Rattle.lists.proofs.Bools.{Is, is, yes-is, no-is, or-left, or-right, some-inj}
+use Rattle.lists.proofs.Elements.{all-intro, all-false}
 use Rattle.lists.proofs.Worklist.{in-keeps, in-cases, none-in}
 use Rattle.graph_rules.specs.Graph.{State, Graph, blank, stateOf, to, acceptOf, earlyOf, leads}
 use Rattle.graph_rules.specs.Build.{covered}
@@ -77,32 +76,10 @@ module _ (g : Graph) where
     pub passed-row : ((d u : ℕ) → to g p d ≡ some u → d < c) → Passed (p + 1) 0 out
     passed-row wide = record { len = v .len; pass = pass-row Uncovers p c (In out) (v .pass) (λ d u e. wide d u (e .0)) }
 
-  test-at : (n u : ℕ) → u < n → getD (map (λ s. not (covered g s)) (below n)) u false ≡ not (covered g u)
-  test-at n u h =
-      map-at (λ s. not (covered g s)) (below n) u 0 false (rw (length-tab 0 n (λ s. s)) h)
-      ∙ ap (λ (s : ℕ). not (covered g s)) (getD-tab0 n (λ s. s) u 0 h)
-
-  pub uncovered-at : (out : List Bool) (n : ℕ) → out ≡ map (λ s. not (covered g s)) (below n) ++ replicate (mostStates - n) false
-      → (u : ℕ) → u < n → getD out u false ≡ not (covered g u)
-  uncovered-at out n e u h = ap (λ (l : List Bool). getD l u false) e ∙ padding-at false (map (λ s. not (covered g s)) (below n)) (mostStates - n) u ∙ test-at n u h
-
   -- all have been passed
-  pub passed-all : (out : List Bool) (n : ℕ) → length (g .states) ≡ n → n ≤ mostStates → ((q d u : ℕ) → to g q d ≡ some u → u < n) → Passed n 0 out
-      → out ≡ map (λ s. not (covered g s)) (below n) ++ replicate (mostStates - n) false
-  passed-all out n size few closed v =
-      let tests = map (λ s. not (covered g s)) (below n) in
-      let long : length tests ≡ n = length-map (below n) (λ s. not (covered g s)) ∙ length-tab 0 n (λ s. s) in
-      padded false out tests mostStates (v .len) (omega arith) (λ u.
-      ⊎-elim (λ h. inside u h (is (getD out u false)) ∙ sym (test-at n u h)) (λ h. outside u h (is (getD out u false)) ∙ sym (List·getD-eq-default tests false (rw long h))) (lt-or-le u n))
-      ∙ ap (λ (k : ℕ). tests ++ replicate (mostStates - k) false) long
+  pub passed-all : (out : List Bool) → Passed (length (g .states)) 0 out → (u : ℕ) → getD out u false ≡ not (covered g u)
+  passed-all out v u = go (is (getD out u false))
     where
-      inside : (u : ℕ) → u < n → Is (getD out u false) → getD out u false ≡ not (covered g u)
-      inside u h (yes-is i) = let (q, d, x) = v .pass .sound u i in i ∙ ap not (sym (uncovers q d u x))
-      inside u h (no-is i) =
-          i ∙ ap not (sym (covers u (λ q d x.
-          let b = edge-within g q d u (x .0) in
-          false≢true (sym i ∙ v .pass .all q d u (inl (omega arith)) x))))
-
-      outside : (u : ℕ) → n ≤ u → Is (getD out u false) → getD out u false ≡ false
-      outside u h (no-is i) = i
-      outside u h (yes-is i) = let (q, d, x) = v .pass .sound u i in let l = closed q d u (x .0) in absurd (omega arith)
+      go : Is (getD out u false) → getD out u false ≡ not (covered g u)
+      go (yes-is i) = let (q, d, x) = v .pass .sound u i in i ∙ ap not (sym (uncovers q d u x))
+      go (no-is i) = i ∙ ap not (sym (covers u (λ q d x. false≢true (sym i ∙ v .pass .all q d u (inl (edge-within g q d u (x .0))) x))))

@@ -10,18 +10,15 @@ use words::graph::states;
 use words::graph::target;
 ghost use mathlib.Core.Path.{_≡_};
 ghost use mathlib.Core.Bool.{true, false, not};
-ghost use mathlib.Core.List.{_++_, map};
-ghost use Prim.Native.Nat.{_+_, _*_, _-_};
-ghost use lib.ListN.{getD, drop, replicate};
-ghost use Rattle.lists.specs.Lists.{below};
+ghost use Prim.Native.Nat.{ℕ, _<_};
+ghost use lib.ListN.{getD};
 ghost use Rattle.graph_rules.specs.Graph.{graphFits, graphFrom, rewritten};
 ghost use Rattle.graph_rules.specs.Build.{covered, withCleared};
-ghost use Rattle.graph_rules.specs.Layout.{mostStates};
 
 // Which states have a parent, by a byte or the end, whose early leaf is not the one they accept.
-pub fn uncovered(graph: &[u16]) -> [bool; STATES]
+fn uncovered(graph: &[u16]) -> [bool; STATES]
     requires { ⌜ graphFits (now graph) ≡ true ⌝ }
-    ensures { λ r. ⌜ r ≡ map (λ s. not (covered (graphFrom (now (graph .entry))) s)) (below (getD (now (graph .entry)) 0 0)) ++ replicate (mostStates - getD (now (graph .entry)) 0 0) false ⌝ }
+    ensures { λ r. ⌜ ((s : ℕ) → s < getD (now (graph .entry)) 0 0 → getD r s false ≡ not (covered (graphFrom (now (graph .entry))) s)) ⌝ }
 {
     let n = states(graph);
     let mut out = [false; STATES];

@@ -11,15 +11,14 @@ use lib.Dec.{eqb, ltb}
 use lib.ListN.{length, getD}
 use Rattle.lists.specs.Lists.{allL, those}
 use Rattle.lists.proofs.Bools.{Is, is, yes-is, no-is, and-intro}
-use Rattle.lists.proofs.Elements.{eqb-sound}
 use Rattle.lists.proofs.Those.{those-keep}
 use Rattle.lists.proofs.Rising.{Rising, rising-nil, rising-cons, rising-those, rising-few}
-use Rattle.graph_rules.specs.Table.{Table, tableOf, rowOf, matchOf, refusal}
-use Rattle.graph_rules.specs.Build.{chain, contenders}
-use Rattle.leaves.specs.Chains.{records, priorityAt, tieFrom, topOf}
-use Rattle.leaves.proofs.Records.{sizes, head-below, leaf-below, next-below, leaf-rises}
-use Rattle.leaves.proofs.Contenders.{leafOfRecord, priorityOf, chain-from, those-leaf, records-end, records-step, contenders-top, top-low}
-use Rattle.graph_rules.specs.Layout.{noLeaf}
+use Rattle.graph_rules.specs.Table.{Table, tableOf, matchOf, refusal}
+use Rattle.leaves.specs.Chains.{records, priorityAt, tieFrom}
+use Rattle.legal.proofs.Legal.{legal-sized}
+use Rattle.leaves.proofs.Records.{leaf-below, next-below, leaf-rises}
+use Rattle.leaves.proofs.Contenders.{leafOfRecord, priorityOf, those-leaf, records-end, records-step}
+use Rattle.graph_rules.specs.Layout.{mostLeaves}
 
 module _ (w : List ℕ) (legal : refusal w ≡ 0) where
   abbrev t : Table
@@ -69,42 +68,20 @@ module _ (w : List ℕ) (legal : refusal w ≡ 0) where
           let n = next-below w legal i a h in
           climbs-on i a h (f (matchOf t i .next) (omega arith) (omega arith))
 
-  -- ---- a state's chain
-
-  chain-leaves : (s : ℕ) → chain t s ≡ leaves (rowOf t s .head)
-  unfolding chain records
-  chain-leaves s = chain-from t (rowOf t s .head) (rowOf t s .head)
-
-  pub chain-rises : (s : ℕ) → Rising (chain t s)
-  chain-rises s = rw (chain-leaves s) (climbs (rowOf t s .head) (rowOf t s .head) (omega arith) (head-below w legal s) .rises)
-
-  pub chain-few : (s : ℕ) → length (chain t s) ≤ noLeaf
-  chain-few s =
-      let c = climbs (rowOf t s .head) (rowOf t s .head) (omega arith) (head-below w legal s) in
-      let f = rising-few (getD w 2 0) (leaves (rowOf t s .head)) (c .rises) (c .low) in
-      let z = sizes w legal in
-      rw (chain-leaves s) (omega arith)
-
-  -- ---- its contenders, and any tie
+  -- ---- a tie
 
   tie-leaves : (i : ℕ) → tieFrom t i ≡ those (λ l. eqb (priorityOf t l) (priorityAt t i)) (leaves i)
   unfolding tieFrom
   tie-leaves i = sym (those-leaf t (priorityAt t i) (records t i))
 
-  pub tie-rises : (i : ℕ) → i ≤ getD w 3 0 → Rising (tieFrom t i)
+  tie-rises : (i : ℕ) → i ≤ getD w 3 0 → Rising (tieFrom t i)
   tie-rises i h = rw (tie-leaves i) (rising-those _ (leaves i) (climbs i i (omega arith) h .rises))
 
-  pub tie-below : (i : ℕ) → i ≤ getD w 3 0 → allL (λ l. ltb l (getD w 2 0)) (tieFrom t i) ≡ true
+  tie-below : (i : ℕ) → i ≤ getD w 3 0 → allL (λ l. ltb l (getD w 2 0)) (tieFrom t i) ≡ true
   tie-below i h = rw (tie-leaves i) (those-keep _ (λ l. ltb l (getD w 2 0)) (leaves i) (climbs i i (omega arith) h .low))
 
-  pub tie-few : (i : ℕ) → i ≤ getD w 3 0 → length (tieFrom t i) ≤ noLeaf
+  pub tie-few : (i : ℕ) → i ≤ getD w 3 0 → length (tieFrom t i) ≤ mostLeaves
   tie-few i h =
       let f = rising-few (getD w 2 0) (tieFrom t i) (tie-rises i h) (tie-below i h) in
-      let z = sizes w legal in
+      let z = legal-sized w legal in
       omega arith
-
-  pub contenders-rise : (s : ℕ) → Rising (contenders t s)
-  contenders-rise s = rw (contenders-top w legal s) (tie-rises (topOf t s) (top-low w legal s))
-
-  pub contenders-few : (s : ℕ) → length (contenders t s) ≤ noLeaf
-  contenders-few s = rw (contenders-top w legal s) (tie-few (topOf t s) (top-low w legal s))

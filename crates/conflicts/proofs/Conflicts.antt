@@ -1,4 +1,4 @@
--- Which states of a set are tied, counted from the last state down, and how many words their errors take. Sorting changes neither number. Assumes nothing.
+-- Which states of a set are tied, counted from the last state down, and how many words their conflicts take. Sorting changes neither number. Assumes nothing.
 use mathlib.Core.Path.{_≡_, refl, sym, ap, _∙_}
 use mathlib.Core.Bool.{Bool, true, false, _&&_}
 use mathlib.Core.List.{List, [], _∷_, map, flatMap}
@@ -6,19 +6,21 @@ use Prim.Native.Nat.{ℕ, suc, _+_, _-_, _*_, _≤_, _<_}
 use native.Mathlib.Omega.{arith}
 use borrow.Author.Tests.{leb-true, le-leb, lt-leb}
 use lib.Dec.{leb}
-use lib.ListN.{length, getD, take, drop, length-map, length-append}
-use Rattle.lists.specs.Lists.{tab, below, those, select, sorted}
+use lib.ListN.{length, getD, take, length-map, length-append}
+use Rattle.lists.specs.Lists.{below, select, sorted}
 use Rattle.lists.proofs.Bools.{Is, is, yes-is, no-is, and-both, and-intro, and-right-false}
 use Rattle.lists.proofs.Elements.{length-tab}
-use Rattle.lists.proofs.Selections.{select-in, select-out, select-none, select-take}
+use Rattle.lists.proofs.Selecting.{select-whole}
 use Rattle.lists.proofs.Sorted.{total, sorted-total, sorted-length}
+use Rattle.lists.proofs.Those.{those-map}
 use Rattle.graph_rules.specs.Table.{Table, tableOf, refusal}
 use Rattle.graph_rules.specs.Build.{contenders, Error, disambiguation, errorWords, ties}
 use Rattle.graph_rules.proofs.Shape.{size-is}
 use Rattle.leaves.specs.Chains.{topOf, nextTied, tieFrom}
 use Rattle.conflicts.specs.Slots.{tiedAt}
+use Rattle.conflicts.proofs.Chosen.{chosenOn, chosen-end, chosen-all, chosen-pass, chosen-more}
 use Rattle.leaves.proofs.Contenders.{contenders-top, tie-end, tie-step, next-tied-low, top-low}
-use Rattle.graph_rules.specs.Layout.{stepCount, noLeaf}
+use Rattle.graph_rules.specs.Layout.{mostLeaves}
 
 -- ---- a state of a set that is tied
 
@@ -93,43 +95,36 @@ abbrev pub wordsOf : List ℕ → ℕ
 wordsOf ls = 2 + length ls
 
 unfoldable pub tiesOn : Table → ℕ → List Bool → ℕ → List (List ℕ)
-tiesOn t n set s = those (λ ls. leb 2 (length ls)) (map (contenders t) (select (drop s set) (tab s (n - s) (λ i. i))))
+tiesOn t n set s = map (contenders t) (chosenOn n set (λ u. leb 2 (length (contenders t u))) s)
 
 module _ (t : Table) (n : ℕ) (set : List Bool) where
   pub ties-end : tiesOn t n set n ≡ []
   unfolding tiesOn
-  ties-end =
-      let e : n - n ≡ 0 = omega arith in
-      rw (e, select-none {A = ℕ} (drop n set))
+  ties-end = rw (chosen-end n set (λ u. leb 2 (length (contenders t u))))
 
   -- state s, and those after it
   module _ (s : ℕ) (h : s < n) where
-    on : tab s (n - s) (λ i. i) ≡ s ∷ tab (suc s) (n - suc s) (λ i. i)
-    on = let e : n - s ≡ suc (n - suc s) = omega arith in ap (λ (k : ℕ). tab s k (λ i. i)) e
-
-    pub ties-pass : (getD set s false && leb 2 (length (contenders t s))) ≡ false → tiesOn t n set s ≡ tiesOn t n set (suc s)
+    ties-pass : (getD set s false && leb 2 (length (contenders t s))) ≡ false → tiesOn t n set s ≡ tiesOn t n set (suc s)
     unfolding tiesOn
-    ties-pass q = go (is (getD set s false))
-      where
-        go : Is (getD set s false) → tiesOn t n set s ≡ tiesOn t n set (suc s)
-        go (no-is o) = rw (on, select-out set s s (tab (suc s) (n - suc s) (λ i. i)) o)
-        go (yes-is m) = rw (on, select-in set s s (tab (suc s) (n - suc s) (λ i. i)) m) (rw (rw m at q, those))
+    ties-pass q = ap (map (contenders t)) (chosen-pass n set (λ u. leb 2 (length (contenders t u))) s h q)
 
-    pub ties-more : (getD set s false && leb 2 (length (contenders t s))) ≡ true → tiesOn t n set s ≡ contenders t s ∷ tiesOn t n set (suc s)
+    ties-more : (getD set s false && leb 2 (length (contenders t s))) ≡ true → tiesOn t n set s ≡ contenders t s ∷ tiesOn t n set (suc s)
     unfolding tiesOn
-    ties-more q =
-        let (m, r) = and-both (getD set s false) (leb 2 (length (contenders t s))) q in
-        rw (on, select-in set s s (tab (suc s) (n - suc s) (λ i. i)) m) (rw (r, those))
+    ties-more q = ap (map (contenders t)) (chosen-more n set (λ u. leb 2 (length (contenders t u))) s h q)
 
--- ---- all of them, sorted, as errors
+-- ---- all of them, sorted, as conflicts
 
 module _ (w : List ℕ) (legal : refusal w ≡ 0) (set : List Bool) where
   pub ties-sorted : ties (tableOf w) (take (getD w 0 0) set) ≡ map disambiguation (sorted (tiesOn (tableOf w) (getD w 0 0) set 0))
   unfolding ties tiesOn
   ties-sorted =
       let n = getD w 0 0 in
-      let e : n - 0 ≡ n = omega arith in
-      rw (size-is w legal, e, select-take n set (below n) (let l = length-tab 0 n (λ i. i) in omega arith))
+      rw (
+        size-is w legal,
+        select-whole set (below n) n (let l = length-tab 0 n (λ i. i) in omega arith),
+        those-map (λ ls. leb 2 (length ls)) (contenders (tableOf w)) (select set (below n)),
+        chosen-all n set (λ u. leb 2 (length (contenders (tableOf w) u))),
+      )
 
 words-length : (l : List (List ℕ)) → length (flatMap errorWords (map disambiguation l)) ≡ total wordsOf l
 unfolding flatMap
@@ -176,7 +171,7 @@ module _ (w : List ℕ) (legal : refusal w ≡ 0) (set : List Bool) (s : ℕ) (s
 pub record Counted (w : List ℕ) (set : List Bool) (s errors words : ℕ) : Type 0 where
   pub inside : s ≤ getD w 0 0
   pub few : errors + s ≤ getD w 0 0
-  pub short : words ≤ stepCount * errors
+  pub short : words ≤ (2 + mostLeaves) * errors
   pub number : errors ≡ length (tiesOn (tableOf w) (getD w 0 0) set s)
   pub sum : words ≡ total wordsOf (tiesOn (tableOf w) (getD w 0 0) set s)
 
@@ -192,7 +187,7 @@ module _ (w : List ℕ) (set : List Bool) (s errors words : ℕ) (some : 0 < s) 
       let f = c .few in
       record { inside = omega arith; few = omega arith; short = c .short; number = c .number ∙ sym (ap length e); sum = c .sum ∙ sym (ap (total wordsOf) e) }
 
-  pub counted-more : (ls : List ℕ) (k : ℕ) → k ≡ length ls → k ≤ noLeaf
+  pub counted-more : (ls : List ℕ) (k : ℕ) → k ≡ length ls → k ≤ mostLeaves
       → tiesOn (tableOf w) (getD w 0 0) set (s - 1) ≡ ls ∷ tiesOn (tableOf w) (getD w 0 0) set s → Counted w set (s - 1) (errors + 1) (words + (2 + k))
   counted-more ls k q b e =
       let i = c .inside in

@@ -1,3 +1,4 @@
+pub mod Chosen
 pub mod Ascents
 pub mod Conflicts
 pub mod Slotted

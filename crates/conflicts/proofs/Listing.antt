@@ -1,4 +1,4 @@
--- The words of a conflict list, from one of its errors on: that error's, and those of the rest. Assumes nothing.
+-- The words of a conflict list, from one of its conflicts on: that one's, and those of the rest. The leaves that can be empty, one by one. Assumes nothing.
 use mathlib.Core.Path.{_≡_, refl, sym, ap, _∙_}
 use mathlib.Core.List.{List, [], _∷_, _++_, map, flatMap}
 use Prim.Native.Nat.{ℕ, suc, _+_, _-_, _*_, _≤_, _<_}
@@ -49,8 +49,8 @@ unfoldable pub emptyWords : List ℕ → List ℕ
 emptyWords l = flatMap errorWords (map emptyMatch l)
 
 module _ (t : Table) (m : ℕ) where
-  pub empties-over : emptyWords (emptiesOn t m m) ≡ []
-  unfolding emptyWords emptiesOn flatMap
+  pub empties-over : emptiesOn t m m ≡ []
+  unfolding emptiesOn
   empties-over = let e : m - m ≡ 0 = omega arith in rw e
 
   module _ (l : ℕ) (h : l < m) where
@@ -59,12 +59,12 @@ module _ (t : Table) (m : ℕ) where
         let e : m - l ≡ suc (m - (l + 1)) = omega arith in
         ap (λ (k : ℕ). tab l k (λ i. i)) e ∙ ap (λ (j : ℕ). l ∷ tab j (m - (l + 1)) (λ i. i)) (sym (add-one l))
 
-    pub empties-yes : leafAt t l .empty ≡ 1 → emptyWords (emptiesOn t m l) ≡ errorWords (emptyMatch l) ++ emptyWords (emptiesOn t m (l + 1))
-    unfolding emptyWords emptiesOn flatMap
+    pub empties-yes : leafAt t l .empty ≡ 1 → emptiesOn t m l ≡ l ∷ emptiesOn t m (l + 1)
+    unfolding emptiesOn
     empties-yes e = rw (leaf-on) (rw (eq-eqb (leafAt t l .empty) 1 e, those))
 
-    pub empties-no : (leafAt t l .empty ≡ 1 → ⊥) → emptyWords (emptiesOn t m l) ≡ emptyWords (emptiesOn t m (l + 1))
-    unfolding emptyWords emptiesOn flatMap
+    pub empties-no : (leafAt t l .empty ≡ 1 → ⊥) → emptiesOn t m l ≡ emptiesOn t m (l + 1)
+    unfolding emptiesOn
     empties-no e = rw (leaf-on) (rw (ne-eqb (leafAt t l .empty) 1 e, those))
 
 pub empties-all : (w : List ℕ) (legal : refusal w ≡ 0) → emptiesOn (tableOf w) (getD w 2 0) 0 ≡ emptyLeaves (tableOf w)

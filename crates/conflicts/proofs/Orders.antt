@@ -15,7 +15,7 @@ use Rattle.graph_rules.specs.Build.{disambiguation, ties}
 use Rattle.leaves.specs.Chains.{tieFrom}
 use Rattle.conflicts.specs.Slots.{slot, putIn, Held, InOrder}
 use Rattle.conflicts.proofs.Conflicts.{tiesOn, ties-end, ties-sorted}
-use Rattle.leaves.proofs.Records.{sizes}
+use Rattle.legal.proofs.Legal.{legal-sized}
 use Rattle.conflicts.proofs.Slotted.{put-length, put-insert, put-held}
 use Rattle.graph_rules.specs.Layout.{mostStates}
 
@@ -42,7 +42,7 @@ module _ (w : List ℕ) (legal : refusal w ≡ 0) (set : List Bool) (s : ℕ) (o
   tie i = tieFrom (tableOf w) i
 
   sorting-few : count ≤ mostStates
-  sorting-few = let f = c .few in let z = sizes w legal in omega arith
+  sorting-few = let f = c .few in let z = legal-sized w legal in omega arith
 
   pub sorting-order : InOrder (tableOf w) (getD w 3 0) order count
   sorting-order = record { held = c .held; ordered = λ i j h b. at i j h b }
@@ -79,7 +79,7 @@ module _ (w : List ℕ) (legal : refusal w ≡ 0) (set : List Bool) (s : ℕ) (o
         let l = c .long in
         let f = c .few in
         let g = c .inside in
-        let z = sizes w legal in
+        let z = legal-sized w legal in
         record {
           inside = omega arith;
           few = omega arith;

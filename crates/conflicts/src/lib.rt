@@ -1,5 +1,5 @@
-// The conflict list: EmptyMatch of rule 1 and Disambiguation of rule 3. How many words it takes, and its words. A tie is known by the match record
-// where it begins, and walked by `next_tied`.
+// The conflict list: NoUniversalStart and EmptyMatch of rule 1, Disambiguation of rule 3. How many conflicts there are, how many words they take, and
+// the words. A tie is known by the match record where it begins, and walked by `next_tied`.
 ghost use mathlib.Core.Path.{_≡_};
 ghost use mathlib.Core.List.{[], _∷_, flatMap, map};
 ghost use Prim.Native.Nat.{_+_, _<_, _≤_};
@@ -14,13 +14,14 @@ ghost use Rattle.conflicts.specs.Listed.{tiesIn, listed};
 use leaves::match_leaf;
 use leaves::next_tied;
 use leaves::top;
+use words::STATES;
 use words::table::leaf_word;
 use words::table::leaves;
 use words::table::states;
-ghost use Rattle.graph_rules.specs.Layout.{mostStates, noLeaf};
+ghost use Rattle.graph_rules.specs.Layout.{mostStates, mostLeaves};
 
 // The record where the tie of state s begins; 0 if it has none, or is not in the set.
-fn tied(table: &[u16], set: &[bool; 1024], s: usize) -> usize
+fn tied(table: &[u16], set: &[bool; STATES], s: usize) -> usize
     requires { ⌜ refusal (now table) ≡ 0 ⌝ }
     requires { ⌜ s < getD (now table) 0 0 ⌝ }
     ensures { λ r. ⌜ (r ≡ tiedAt (tableOf (now (table .entry))) (now (set .entry)) s) × (r ≤ getD (now (table .entry)) 3 0) ⌝ }
@@ -42,7 +43,7 @@ fn tied(table: &[u16], set: &[bool; 1024], s: usize) -> usize
 fn tie_length(table: &[u16], i: usize) -> usize
     requires { ⌜ refusal (now table) ≡ 0 ⌝ }
     requires { ⌜ i ≤ getD (now table) 3 0 ⌝ }
-    ensures { λ r. ⌜ (r ≡ length (tieFrom (tableOf (now (table .entry))) i)) × (r ≤ noLeaf) ⌝ }
+    ensures { λ r. ⌜ (r ≡ length (tieFrom (tableOf (now (table .entry))) i)) × (r ≤ mostLeaves) ⌝ }
 {
     let mut number: usize = 0;
     let mut j = i;
@@ -53,14 +54,14 @@ fn tie_length(table: &[u16], i: usize) -> usize
     number
 }
 
-// A number of errors, and of the words that tell them.
+// A number of conflicts, and of the words that tell them.
 pub struct TieWords {
     pub errors: usize,
     pub words: usize,
 }
 
-// Rule 3: how many states of a set are tied, and the words of their errors. The set is of the table's n states; flags from n on mean nothing.
-pub fn tie_words(table: &[u16], set: &[bool; 1024]) -> TieWords
+// Rule 3: how many states of a set are tied, and the words of their conflicts. The set is of the table's n states; flags from n on mean nothing.
+pub fn tie_words(table: &[u16], set: &[bool; STATES]) -> TieWords
     requires { ⌜ refusal (now table) ≡ 0 ⌝ }
     ensures { λ r. ⌜ r .errors ≡ length (tiesIn (now (table .entry)) (now (set .entry))) ⌝ }
     ensures { λ r. ⌜ r .words ≡ length (flatMap errorWords (tiesIn (now (table .entry)) (now (set .entry)))) ⌝ }
@@ -108,7 +109,7 @@ fn tie_before(table: &[u16], a: usize, b: usize) -> bool
 
 // Where the tie from record i belongs among those from the first `count` of the records, which stand in order: before the first that it comes
 // before. By halving, so that a tie is compared with ten others at most.
-fn slot_of(table: &[u16], order: &[u16; 1024], count: usize, i: usize) -> usize
+fn slot_of(table: &[u16], order: &[u16; STATES], count: usize, i: usize) -> usize
     requires { ⌜ refusal (now table) ≡ 0 ⌝ }
     requires { ⌜ length (now order) ≡ mostStates ⌝ }
     requires { ⌜ i ≤ getD (now table) 3 0 ⌝ }
@@ -129,7 +130,7 @@ fn slot_of(table: &[u16], order: &[u16; 1024], count: usize, i: usize) -> usize
 }
 
 // v at place p, and the elements from p up to `count` one place on.
-fn put_in(order: &mut [u16; 1024], count: usize, p: usize, v: u16)
+fn put_in(order: &mut [u16; STATES], count: usize, p: usize, v: u16)
     requires { ⌜ length (now order) ≡ mostStates ⌝ }
     requires { ⌜ count < mostStates ⌝ }
     requires { ⌜ p ≤ count ⌝ }
@@ -145,17 +146,17 @@ fn put_in(order: &mut [u16; 1024], count: usize, p: usize, v: u16)
 
 // The records where ties begin, the first `count` of them.
 struct TieOrder {
-    order: [u16; 1024],
+    order: [u16; STATES],
     count: usize,
 }
 
 // A set's ties in the order of the conflict list: from the last state down, each is put in at its place. Equal ones are kept.
-fn tie_order(table: &[u16], set: &[bool; 1024]) -> TieOrder
+fn tie_order(table: &[u16], set: &[bool; STATES]) -> TieOrder
     requires { ⌜ refusal (now table) ≡ 0 ⌝ }
     ensures { λ r. ⌜ map disambiguation (map (tieFrom (tableOf (now (table .entry)))) (take (r .count) (r .order))) ≡ tiesIn (now (table .entry)) (now (set .entry)) ⌝ }
     ensures { λ r. ⌜ Held (getD (now (table .entry)) 3 0) (r .order) (r .count) ⌝ }
 {
-    let mut order = [0u16; 1024];
+    let mut order = [0u16; STATES];
     let mut count: usize = 0;
     let mut s = states(table);
     while 0 < s {
@@ -170,7 +171,7 @@ fn tie_order(table: &[u16], set: &[bool; 1024]) -> TieOrder
     TieOrder { order, count }
 }
 
-// Writes the error of the tie from record i at place `at`; answers the place after it.
+// Writes the conflict of the tie from record i at place `at`; answers the place after it.
 fn write_tie(table: &[u16], i: usize, errors: &mut [u16], at: usize) -> usize
     requires { ⌜ refusal (now table) ≡ 0 ⌝ }
     requires { ⌜ i ≤ getD (now table) 3 0 ⌝ }
@@ -190,8 +191,8 @@ fn write_tie(table: &[u16], i: usize, errors: &mut [u16], at: usize) -> usize
     k
 }
 
-// Rule 3: writes the errors of a set's ties.
-pub fn write_ties(table: &[u16], set: &[bool; 1024], errors: &mut [u16])
+// Rule 3: writes the conflicts of a set's ties.
+pub fn write_ties(table: &[u16], set: &[bool; STATES], errors: &mut [u16])
     requires { ⌜ refusal (now table) ≡ 0 ⌝ }
     requires { ⌜ length (flatMap errorWords (tiesIn (now table) (now set))) ≤ length (now errors) ⌝ }
     ensures { λ _. ⌜ now (errors .exit) ≡ listed (tiesIn (now (table .entry)) (now (set .entry))) (now (errors .entry)) ⌝ }
@@ -207,7 +208,24 @@ pub fn write_ties(table: &[u16], set: &[bool; 1024], errors: &mut [u16])
     }
 }
 
-// Rule 1, where a leaf can match empty text: writes an error for each such leaf.
+// Rule 1: how many leaves can match empty text.
+pub fn count_empty(table: &[u16]) -> usize
+    requires { ⌜ refusal (now table) ≡ 0 ⌝ }
+    ensures { λ r. ⌜ r ≡ length (emptyLeaves (tableOf (now (table .entry)))) ⌝ }
+{
+    let m = leaves(table);
+    let mut number: usize = 0;
+    let mut l: usize = 0;
+    while l < m {
+        if leaf_word(table, l, 2) == 1 {
+            number += 1;
+        }
+        l += 1;
+    }
+    number
+}
+
+// Rule 1, where a leaf can match empty text: writes a conflict for each such leaf.
 pub fn write_empty(table: &[u16], errors: &mut [u16])
     requires { ⌜ refusal (now table) ≡ 0 ⌝ }
     requires { ⌜ length (flatMap errorWords (map emptyMatch (emptyLeaves (tableOf (now table))))) ≤ length (now errors) ⌝ }
@@ -227,7 +245,7 @@ pub fn write_empty(table: &[u16], errors: &mut [u16])
     }
 }
 
-// Rule 1, where there is no universal start: writes its error.
+// Rule 1, where there is no universal start: writes that conflict.
 pub fn write_no_start(errors: &mut [u16])
     requires { ⌜ 2 ≤ length (now errors) ⌝ }
     ensures { λ _. ⌜ now (errors .exit) ≡ listed (noUniversalStart ∷ []) (now (errors .entry)) ⌝ }

@@ -1,7 +1,7 @@
 -- The line of a conflict: kind, then leaf by leaf. Assumes nothing.
 use mathlib.Core.Path.{_≡_, refl, sym, ap, _∙_}
 use mathlib.Core.Bool.{true}
-use mathlib.Core.List.{List, [], _∷_, _++_, map, append-nil}
+use mathlib.Core.List.{List, [], _∷_, _++_, map}
 use mathlib.Core.Logic.{_⊎_, inl, inr}
 use Prim.Native.Nat.{ℕ, suc, _+_, _*_, _≤_, _<_}
 use native.Mathlib.Omega.{arith}
@@ -79,7 +79,7 @@ module _ (w : List ℕ) (small : (i : ℕ) → getD w i 0 < 65536) where
       let t = length-take (getD w 1 0) (drop 2 w) in
       omega arith
 
--- ---- the equations that a reader expects
+-- ---- the line of a conflict
 
 -- what stands after an error's words does not show
 pub line-of-error : (e : Error) (rest : List ℕ) → lineOf (errorWords e ++ rest) ≡ conflictLine e
@@ -88,15 +88,3 @@ line-of-error noUniversalStart rest = refl
 line-of-error (emptyMatch l) rest = refl
 line-of-error (disambiguation ls) rest =
     ap (λ (l : List ℕ). (bytes "error " ++ decimal 2) ++ after (bytes " ") (map decimal l)) (take-at ls rest (length ls) refl ∙ sym (take-length ls))
-
-pub no-universal-start : conflictLine noUniversalStart ≡ bytes "error 0"
-unfolding lineOf conflictLine decimal
-no-universal-start = refl
-
-pub empty-match : (l : ℕ) → conflictLine (emptyMatch l) ≡ bytes "error 1 " ++ decimal l
-unfolding lineOf conflictLine decimal
-empty-match l = ap (λ (t : List ℕ). bytes "error 1 " ++ t) (append-nil (decimal l))
-
-pub disambiguated : (ls : List ℕ) → conflictLine (disambiguation ls) ≡ bytes "error 2" ++ after (bytes " ") (map decimal ls)
-unfolding lineOf conflictLine decimal
-disambiguated ls = ap (λ (l : List ℕ). bytes "error 2" ++ after (bytes " ") (map decimal l)) (take-length ls)

@@ -14,7 +14,7 @@ use Rattle.display.proofs.Calls.{display-taken, line-taken}
 use Rattle.display.proofs.Conflicts.{line-size}
 use Rattle.display.proofs.Sizes.{graph-size}
 
-written-room : (text found : List ℕ) → length text ≤ length found → written text found .answer ≡ Bytes (length text)
+pub written-room : (text found : List ℕ) → length text ≤ length found → written text found .answer ≡ Bytes (length text)
 unfolding written
 written-room text found h = rw (le-leb (length text) (length found) h)
 

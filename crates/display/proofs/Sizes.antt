@@ -3,27 +3,27 @@
 use mathlib.Core.Path.{_≡_, refl, ap, _∙_}
 use mathlib.Core.Bool.{true}
 use mathlib.Core.List.{List, [], _++_, map}
-use mathlib.Core.Logic.{_⊎_, inl, inr, ⊎-elim}
-use Prim.Native.Nat.{ℕ, zero, suc, _+_, _*_, _/_, _%_, _≤_, _<_}
+use mathlib.Core.Option.{Option, none, some}
+use Prim.Native.Nat.{ℕ, zero, suc, _+_, _*_, _≤_, _<_}
 use native.Mathlib.Omega.{arith}
-use borrow.Author.Tests.{eqb-false}
-use lib.Dec.{eqb}
 use lib.ListN.{length, getD, length-append, length-take}
 use Rattle.lists.specs.Lists.{tab, below, those}
 use Rattle.lists.proofs.Bools.{Is, is, yes-is, no-is}
 use Rattle.classes.specs.Classes.{Class}
-use Rattle.graph_rules.specs.Graph.{State, stateOf, orNone, graphFrom, graphFits}
-use Rattle.graph_rules.proofs.Taken.{taken-few, taken-target}
+use Rattle.graph_rules.specs.Graph.{State, stateOf, to, graphFrom, graphFits}
+use Rattle.graph_rules.proofs.Taken.{taken-few}
+use Rattle.graph_rules.proofs.Flat.{from-length}
+use Rattle.words.proofs.GraphWords.{from-edge, taken-fits}
 use Rattle.display.specs.Text.{bytes, decimal, after}
 use Rattle.display.specs.Display.{classText, markText, firstLine, edgeLine, edgeLines, endLines, stateText, displayed}
 use Rattle.edges.specs.Edges.{bytesOf, classTo, leadsTo, targets}
 use Rattle.display.proofs.Decimals.{below-thousand, below-ten-thousand}
 use Rattle.display.proofs.ClassSize.{class-size}
 use Rattle.display.proofs.Joins.{joined-after}
-use Rattle.display.proofs.Parts.{state-parts}
+use Rattle.display.proofs.Parts.{text-parts}
 use Rattle.display.proofs.States.{textOf, display-all}
 use Rattle.display.proofs.Members.{total, members, all-members, some-member}
-use Rattle.graph_rules.specs.Layout.{endStep, noState, marksPlace, graphPlace, noLeaf, acceptIn, earlyIn}
+use Rattle.graph_rules.specs.Layout.{endStep}
 
 -- ---- the edges
 
@@ -71,22 +71,19 @@ module _ (st : State) where
 
 -- ---- the other lines
 
-mark-size : (name : List ℕ) (x : ℕ) → x < 1000 → length (markText name (orNone noLeaf x)) ≤ length name + 5
-mark-size name x h = go (is (eqb x 255))
-  where
-    go : Is (eqb x 255) → length (markText name (orNone noLeaf x)) ≤ length name + 5
-    go (yes-is q) = rw q (omega arith)
-    go (no-is q) =
-        let d = below-thousand x h in
-        let m = length-append (decimal x) (bytes ") ") in
-        let n = length-append name (decimal x ++ bytes ") ") in
-        rw q (omega arith)
+mark-size : (name : List ℕ) (o : Option ℕ) → ((x : ℕ) → o ≡ some x → x < 1000) → length (markText name o) ≤ length name + 5
+mark-size name none h = omega arith
+mark-size name (some x) h =
+    let d = below-thousand x (h x refl) in
+    let m = length-append (decimal x) (bytes ") ") in
+    let n = length-append name (decimal x ++ bytes ") ") in
+    omega arith
 
-first-size : (s a e : ℕ) → s < 10000 → a < 1000 → e < 1000 → length (firstLine s (orNone noLeaf a) (orNone noLeaf e)) ≤ 51
+first-size : (s : ℕ) → s < 10000 → (a e : Option ℕ) → ((x : ℕ) → a ≡ some x → x < 1000) → ((x : ℕ) → e ≡ some x → x < 1000) → length (firstLine s a e) ≤ 51
 unfolding firstLine
-first-size s a e h k l =
-    let accept = markText (bytes "accept(") (orNone noLeaf a) in
-    let early = markText (bytes "early(") (orNone noLeaf e) in
+first-size s h a e k l =
+    let accept = markText (bytes "accept(") a in
+    let early = markText (bytes "early(") e in
     let i = below-ten-thousand s h in
     let j = mark-size (bytes "accept(") a k in
     let m = mark-size (bytes "early(") e l in
@@ -95,30 +92,25 @@ first-size s a e h k l =
     let r = length-append early (bytes ") {") in
     omega arith
 
-end-size : (x : ℕ) → (x < 10000) ⊎ (x ≡ noState) → length (after (bytes "\n") (endLines (orNone noState x))) ≤ 21
-end-size x h = go (is (eqb x noState)) h
-  where
-    go : Is (eqb x noState) → (x < 10000) ⊎ (x ≡ noState) → length (after (bytes "\n") (endLines (orNone noState x))) ≤ 21
-    go (yes-is q) h = rw q (omega arith)
-    go (no-is q) (inl l) = let d = below-ten-thousand x l in let n = length-append (decimal x) [] in rw q (omega arith)
-    go (no-is q) (inr e) = absurd (eqb-false x noState q e)
+end-size : (o : Option ℕ) → ((x : ℕ) → o ≡ some x → x < 10000) → length (after (bytes "\n") (endLines o)) ≤ 21
+end-size none h = omega arith
+end-size (some x) h = let d = below-ten-thousand x (h x refl) in let n = length-append (decimal x) [] in omega arith
 
--- ---- a state, of words that 12 takes
+-- ---- a state, of well-formed graph words (refusal 12)
 
-module _ (w : List ℕ) (taken : graphFits w ≡ true) (small : (i : ℕ) → getD w i 0 < 65536) where
-  pub state-size : (s : ℕ) → s < getD w 0 0 → length (stateText (getD w 0 0) s (stateOf (graphFrom w) s)) ≤ 6476
+module _ (w : List ℕ) (fits : graphFits w ≡ true) (small : (i : ℕ) → getD w i 0 < 65536) where
+  state-size : (s : ℕ) → s < getD w 0 0 → length (stateText (getD w 0 0) s (stateOf (graphFrom w) s)) ≤ 6476
+  unfolding to
   state-size s h =
-      let marks = getD w (graphPlace s marksPlace) 0 in
-      let end = getD w (graphPlace s endStep) 0 in
-      let first = firstLine s (orNone noLeaf (acceptIn marks)) (orNone noLeaf (earlyIn marks)) in
-      let edges = after (bytes "\n") (edgeLines (getD w 0 0) (stateOf (graphFrom w) s)) in
-      let last = after (bytes "\n") (endLines (orNone noState end)) in
-      let few = taken-few w taken in
-      let sum : length (stateText (getD w 0 0) s (stateOf (graphFrom w) s)) ≡ length first + (length edges + (length last + 4)) =
-      ap length (state-parts w taken s h marks end refl refl) ∙ simp length-append in
-      let i : length first ≤ 51 = first-size s (acceptIn marks) (earlyIn marks) (omega arith) (omega arith) (let b = small (graphPlace s marksPlace) in omega arith) in
-      let j : length edges ≤ 6400 = edges-size (stateOf (graphFrom w) s) (getD w 0 0) (omega arith) in
-      let k : length last ≤ 21 = end-size end (⊎-elim (λ l. inl (omega arith)) inr (taken-target w taken s 256 h (omega arith))) in
+      let st = stateOf (graphFrom w) s in
+      let few = taken-few w fits in
+      let f = taken-fits w fits small .states s (rw (from-length w) h) in
+      let sum : length (stateText (getD w 0 0) s st)
+      ≡ length (firstLine s (st .accept) (st .early)) + (length (after (bytes "\n") (edgeLines (getD w 0 0) st)) + (length (after (bytes "\n") (endLines (getD (st .steps) endStep none))) + 4)) =
+      ap length (text-parts (getD w 0 0) s st) ∙ simp length-append in
+      let i = first-size s (omega arith) (st .accept) (st .early) (λ x e. omega (arith, f .accept-below x e)) (λ x e. omega (arith, f .early-below x e)) in
+      let j = edges-size st (getD w 0 0) (omega arith) in
+      let k = end-size (getD (st .steps) endStep none) (λ x e. omega (arith, from-edge w fits s endStep x e .3)) in
       omega arith
 
   -- ---- the graph: a line end for each state but the first

@@ -33,10 +33,10 @@ written text found =
 unfoldable pub displayCall : List ℕ → List ℕ → Call
 displayCall words found = cond (graphFits words) (written (displayed (graphFrom words)) found) (refused 12 found)
 
--- the words begin with an error: kind, leaf count, and as many leaves
+-- the words begin with a conflict: kind, leaf count, and as many leaves
 unfoldable pub errorFits : List ℕ → Bool
 errorFits words = leb 2 (length words) && leb (2 + getD words 1 0) (length words)
 
--- the line of the error that the words begin with: 9 if they end before it does, then 29
+-- the line of the conflict that the words begin with: 9 if they end before it does, then 29
 unfoldable pub lineCall : List ℕ → List ℕ → Call
 lineCall words found = cond (errorFits words) (written (lineOf words) found) (refused 9 found)

@@ -12,6 +12,7 @@ use Rattle.graph_rules.specs.Graph.{State, Graph, stateOf}
 use Rattle.graph_rules.specs.Build.{Error, errorWords}
 use Rattle.classes.specs.Classes.{Class, ranges}
 use Rattle.edges.specs.Edges.{classTo, targets}
+use Rattle.graph_rules.specs.Layout.{endStep}
 use Rattle.display.specs.Text.{bytes, one, decimal, joined}
 
 -- ---- a byte: "`escape_default` keeps bytes 32 to 126 but quotes and backslash, uses `\t \r \n \' \" \\`, else `\x` and two lower-case hex digits"
@@ -69,7 +70,7 @@ endLines (some u) = (bytes "    EOI => " ++ nameOf u) ∷ []
 unfoldable pub stateText : ℕ → ℕ → State → List ℕ
 stateText n s st =
     joined (bytes "\n")
-    (firstLine s (st .accept) (st .early) ∷ (edgeLines n st ++ (endLines (getD (st .steps) 256 none) ++ (bytes "  }" ∷ []))))
+    (firstLine s (st .accept) (st .early) ∷ (edgeLines n st ++ (endLines (getD (st .steps) endStep none) ++ (bytes "  }" ∷ []))))
 
 -- ---- a graph: its states, ascending
 

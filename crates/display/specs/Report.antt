@@ -17,6 +17,6 @@ noRoom text found = on (ltb (length found) (length text)) 29
 unfoldable pub displayRefusal : List ℕ → List ℕ → ℕ
 displayRefusal words found = lowest (on (not (graphFits words)) 12 ∷ noRoom (displayed (graphFrom words)) found ∷ [])
 
--- error words, buffer
+-- conflict words, buffer
 unfoldable pub lineRefusal : List ℕ → List ℕ → ℕ
 lineRefusal words found = lowest (on (not (errorFits words)) 9 ∷ noRoom (lineOf words) found ∷ [])

@@ -28,7 +28,7 @@ fn hex_digit(d: u8) -> u8
 }
 
 // A byte as `escape_default` gives it.
-pub fn escape_default(out: &mut [u8], at: usize, b: u8) -> usize
+fn escape_default(out: &mut [u8], at: usize, b: u8) -> usize
     requires { ⌜ Counts at (escaped b) ⌝ }
     ensures { λ r. ⌜ Wrote (now (out .entry)) at (escaped b) (now (out .exit)) r ⌝ }
 {
@@ -44,7 +44,7 @@ pub fn escape_default(out: &mut [u8], at: usize, b: u8) -> usize
 }
 
 // A range: its first byte, and its last if that is another.
-pub fn range(out: &mut [u8], at: usize, first: u8, last: u8) -> usize
+fn range(out: &mut [u8], at: usize, first: u8, last: u8) -> usize
     requires { ⌜ Counts at (rangeText first last) ⌝ }
     ensures { λ r. ⌜ Wrote (now (out .entry)) at (rangeText first last) (now (out .exit)) r ⌝ }
 {
@@ -66,7 +66,7 @@ fn next_range(out: &mut [u8], at: usize, first: u8, last: u8) -> usize
 }
 
 // A class: its maximal ranges, with a bar between two.
-pub fn class(out: &mut [u8], at: usize, class: &[bool; 256]) -> usize
+pub(crate) fn class(out: &mut [u8], at: usize, class: &[bool; 256]) -> usize
     requires { ⌜ Counts at (classText (now class)) ⌝ }
     ensures { λ r. ⌜ Wrote (now (out .entry)) at (classText (now (class .entry))) (now (out .exit)) r ⌝ }
 {

@@ -8,8 +8,8 @@ ghost use Rattle.display.specs.Display.{lineOf};
 ghost use Rattle.display.specs.Answers.{errorFits};
 use crate::put;
 
-// Whether the words begin with an error.
-pub fn fits(errors: &[u16]) -> bool
+// Whether the words begin with a conflict.
+pub(crate) fn fits(errors: &[u16]) -> bool
     ensures { λ r. ⌜ r ≡ errorFits (now (errors .entry)) ⌝ }
 {
     if errors.len() < 2 {
@@ -26,7 +26,7 @@ fn next_leaf(out: &mut [u8], at: usize, leaf: usize) -> usize
     put::numbered(out, at, b" ", leaf)
 }
 
-// The line of the error that the words begin with.
+// The line of the conflict that the words begin with.
 pub fn line(out: &mut [u8], at: usize, errors: &[u16]) -> usize
     requires { ⌜ errorFits (now errors) ≡ true ⌝ }
     requires { ⌜ Counts at (lineOf (now errors)) ⌝ }
@@ -44,7 +44,7 @@ pub fn line(out: &mut [u8], at: usize, errors: &[u16]) -> usize
 }
 
 // The length of that line.
-pub fn length(errors: &[u16]) -> usize
+pub(crate) fn length(errors: &[u16]) -> usize
     requires { ⌜ errorFits (now errors) ≡ true ⌝ }
     ensures { λ r. ⌜ r ≡ length (lineOf (now (errors .entry))) ⌝ }
 {

@@ -27,7 +27,7 @@ pub fn states(out: &mut [u8], at: usize, graph: &[u16]) -> usize
     requires { ⌜ Counts at (displayed (graphFrom (now graph))) ⌝ }
     ensures { λ r. ⌜ Wrote (now (out .entry)) at (displayed (graphFrom (now (graph .entry)))) (now (out .exit)) r ⌝ }
 {
-    let n = words::word(graph, 0);
+    let n = words::graph::states(graph);
     if n == 0 {
         return at;
     }
@@ -41,7 +41,7 @@ pub fn states(out: &mut [u8], at: usize, graph: &[u16]) -> usize
 }
 
 // The length of a graph's text.
-pub fn length(graph: &[u16]) -> usize
+pub(crate) fn length(graph: &[u16]) -> usize
     requires { ⌜ graphFits (now graph) ≡ true ⌝ }
     ensures { λ r. ⌜ r ≡ length (displayed (graphFrom (now (graph .entry)))) ⌝ }
 {

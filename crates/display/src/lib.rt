@@ -1,5 +1,5 @@
 // The text of a graph, as Rust's Display gives it, and the lines of its conflicts (document 01, K1 and the paragraph after it). Words of a graph
-// or of an error come in, and bytes of text go into a lent buffer, whole or not at all.
+// or of a conflict come in, and bytes of text go into a lent buffer, whole or not at all.
 //
 // Each inner function writes its part from a place on and hands out the place after it. What passes the buffer's end is counted and not written, so
 // the same function over no bytes measures the text; a call measures first. A state costs a pass over its row for each target that it has.
@@ -10,13 +10,13 @@
 ghost use mathlib.Core.Path.{_≡_};
 ghost use Rattle.display.specs.Answers.{displayCall, lineCall};
 
-pub mod byte_class;
+mod byte_class;
 pub mod errors;
 pub mod graph;
 pub mod put;
-pub mod state;
+mod state;
 
-// How many bytes were written; or the number of a refusal, the buffer being as found.
+// How many bytes were written; or the number of a refusal, the buffer being unchanged.
 pub enum Shown {
     Bytes(usize),
     Refused(u8),
@@ -37,7 +37,7 @@ pub fn display(graph: &[u16], out: &mut [u8]) -> Shown
     Shown::Bytes(graph::states(out, 0, graph))
 }
 
-// The line of the error that the words begin with, from the front of the buffer. Refused: 9 if the words end before the error does; 29 if the
+// The line of the conflict that the words begin with, from the front of the buffer. Refused: 9 if the words end before it does; 29 if the
 // line does not fit.
 pub fn error_line(errors: &[u16], out: &mut [u8]) -> Shown
     ensures answer { λ r. ⌜ r ≡ lineCall (now (errors .entry)) (now (out .entry)) .answer ⌝ }

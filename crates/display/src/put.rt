@@ -16,7 +16,7 @@ pub fn byte(out: &mut [u8], at: usize, b: u8) -> usize
 }
 
 // Two bytes.
-pub fn pair(out: &mut [u8], at: usize, a: u8, b: u8) -> usize
+pub(crate) fn pair(out: &mut [u8], at: usize, a: u8, b: u8) -> usize
     requires { ⌜ Counts at (a ∷ b ∷ []) ⌝ }
     ensures { λ r. ⌜ Wrote (now (out .entry)) at (a ∷ b ∷ []) (now (out .exit)) r ⌝ }
 {
@@ -25,7 +25,7 @@ pub fn pair(out: &mut [u8], at: usize, a: u8, b: u8) -> usize
 }
 
 // The bytes of a text.
-pub fn text(out: &mut [u8], at: usize, bytes: &[u8]) -> usize
+pub(crate) fn text(out: &mut [u8], at: usize, bytes: &[u8]) -> usize
     requires { ⌜ Counts at (now bytes) ⌝ }
     ensures { λ r. ⌜ Wrote (now (out .entry)) at (now (bytes .entry)) (now (out .exit)) r ⌝ }
 {
@@ -39,7 +39,7 @@ pub fn text(out: &mut [u8], at: usize, bytes: &[u8]) -> usize
 }
 
 // A number in decimal.
-pub fn number(out: &mut [u8], at: usize, n: usize) -> usize
+fn number(out: &mut [u8], at: usize, n: usize) -> usize
     requires { ⌜ Counts at (decimal n) ⌝ }
     ensures { λ r. ⌜ Wrote (now (out .entry)) at (decimal n) (now (out .exit)) r ⌝ }
 {

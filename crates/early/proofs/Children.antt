@@ -4,7 +4,7 @@ use mathlib.Core.Bool.{true}
 use mathlib.Core.List.{List, [], _∷_, _++_, map, append-nil}
 use mathlib.Core.Option.{Option, none, some, Option·getD}
 use mathlib.Core.Logic.{⊎-elim}
-use Prim.Native.Nat.{ℕ, _+_, _*_, _%_, _≤_, _<_}
+use Prim.Native.Nat.{ℕ, _≤_, _<_}
 use native.Mathlib.Omega.{arith}
 use lib.ListN.{length, getD, take, drop, length-map, take-append-drop, drop-of-length-le, List·getD-map}
 use lib.Seq.{drop-cons, length-take-le, getD-take, ext-getD}
@@ -20,11 +20,11 @@ use Rattle.graph_rules.proofs.Nones.{word-inj}
 use Rattle.words.proofs.GraphWords.{accept-leaf}
 use Rattle.graph_rules.specs.Layout.{endStep, stepCount, noState, marksPlace, graphPlace, noLeaf, acceptIn}
 
--- ---- the children of a row of 257
+-- ---- the children of a row
 
 module _ (s : State) (width : length (s .steps) ≡ stepCount) where
   last : drop endStep (s .steps) ≡ getD (s .steps) endStep none ∷ []
-  last = drop-cons (s .steps) endStep none (omega arith) ∙ ap (_∷_ (getD (s .steps) endStep none)) (drop-of-length-le (s .steps) {i = marksPlace} (omega arith))
+  last = drop-cons (s .steps) endStep none (omega arith) ∙ ap (_∷_ (getD (s .steps) endStep none)) (drop-of-length-le (s .steps) {i = stepCount} (omega arith))
 
   children-bytes : getD (s .steps) endStep none ≡ none → children s ≡ take endStep (s .steps)
   unfolding children
@@ -72,10 +72,10 @@ module _ (w : List ℕ) (taken : graphFits w ≡ true) (s : ℕ) (h : s < getD w
   byte-kids e =
       let row = stateOf g s .steps in
       let kids = children-bytes (stateOf g s) width e in
-      let short = length-take-le 256 row (let z = width in omega arith) in
+      let short = length-take-le endStep row (let z = width in omega arith) in
       record { many = size (take endStep row) kids ∙ short; leaf = λ c b. leaf-at (take endStep row) kids c (getD-take endStep row c none b) }
 
-  all-kids : (u : ℕ) → to g s endStep ≡ some u → Kids marksPlace
+  all-kids : (u : ℕ) → to g s endStep ≡ some u → Kids stepCount
   unfolding to
   all-kids u e =
       let kids = children-all (stateOf g s) width u e in
@@ -83,7 +83,7 @@ module _ (w : List ℕ) (taken : graphFits w ≡ true) (s : ℕ) (h : s < getD w
 
   -- ---- what they agree on
 
-  module _ (n : ℕ) (k : Kids n) (some-kid : 256 ≤ n) where
+  module _ (n : ℕ) (k : Kids n) (some-kid : endStep ≤ n) where
     early-is : (o : Option ℕ) → agreed leaves ≡ o → Option·getD o noLeaf ≡ earlyLeaf w s
     early-is o e = ap (λ (o : Option ℕ). Option·getD o noLeaf) (sym (early-early g s ∙ e))
 
@@ -105,22 +105,22 @@ module _ (w : List ℕ) (taken : graphFits w ≡ true) (s : ℕ) (h : s < getD w
         no-leaf none e = none-some e
         no-leaf (some u) e = accept-leaf w taken u e
 
-  pub byte-differs : (c : ℕ) → c < 256 → (leafBy w s c ≡ leafBy w s 0 → ⊥) → noLeaf ≡ earlyLeaf w s
+  pub byte-differs : (c : ℕ) → c < endStep → (leafBy w s c ≡ leafBy w s 0 → ⊥) → noLeaf ≡ earlyLeaf w s
   byte-differs c b d = go (to g s endStep) refl
     where
       go : (o : Option ℕ) → to g s endStep ≡ o → noLeaf ≡ earlyLeaf w s
       go none e = differ endStep (byte-kids e) (omega arith) c b d
-      go (some u) e = differ marksPlace (all-kids u e) (omega arith) c (omega arith) d
+      go (some u) e = differ stepCount (all-kids u e) (omega arith) c (omega arith) d
 
   pub end-differs : (u : ℕ) → to (graphFrom w) s endStep ≡ some u → (leafBy w s endStep ≡ leafBy w s 0 → ⊥) → noLeaf ≡ earlyLeaf w s
-  end-differs u e = differ marksPlace (all-kids u e) (omega arith) endStep (omega arith)
+  end-differs u e = differ stepCount (all-kids u e) (omega arith) endStep (omega arith)
 
   -- a missing end step does not prevent it
-  pub bytes-agree : to (graphFrom w) s endStep ≡ none → ((c : ℕ) → c < 256 → leafBy w s c ≡ leafBy w s 0) → leafBy w s 0 ≡ earlyLeaf w s
+  pub bytes-agree : to (graphFrom w) s endStep ≡ none → ((c : ℕ) → c < endStep → leafBy w s c ≡ leafBy w s 0) → leafBy w s 0 ≡ earlyLeaf w s
   bytes-agree e = agree endStep (byte-kids e) (omega arith)
 
   pub all-agree : (u : ℕ) → to (graphFrom w) s endStep ≡ some u → ((c : ℕ) → c < stepCount → leafBy w s c ≡ leafBy w s 0) → leafBy w s 0 ≡ earlyLeaf w s
-  all-agree u e = agree marksPlace (all-kids u e) (omega arith)
+  all-agree u e = agree stepCount (all-kids u e) (omega arith)
 
 -- ---- words that agree on targets and accepts agree on the early leaf
 

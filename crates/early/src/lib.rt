@@ -8,16 +8,15 @@ use words::graph::states;
 use words::graph::target;
 ghost use mathlib.Core.Path.{_≡_};
 ghost use mathlib.Core.Bool.{true};
-ghost use mathlib.Core.List.{_++_};
 ghost use mathlib.Core.Option.{Option·getD};
-ghost use Prim.Native.Nat.{_+_, _*_, _<_, _≤_};
-ghost use lib.ListN.{getD, drop};
+ghost use Prim.Native.Nat.{_<_, _≤_};
+ghost use lib.ListN.{getD};
 ghost use Rattle.graph_rules.specs.Graph.{graphFits, graphFrom, rewritten, to, earlyOf};
 ghost use Rattle.graph_rules.specs.Build.{acceptBy, withEarly};
 ghost use Rattle.graph_rules.specs.Layout.{stepCount, noLeaf};
 
 // The leaf of the state that edge c of state s leads to; NO_LEAF if there is no edge, or no leaf.
-pub fn accept_by(graph: &[u16], s: usize, c: usize) -> usize
+fn accept_by(graph: &[u16], s: usize, c: usize) -> usize
     requires { ⌜ graphFits (now graph) ≡ true ⌝ }
     requires { ⌜ s < getD (now graph) 0 0 ⌝ }
     requires { ⌜ c < stepCount ⌝ }
@@ -31,7 +30,7 @@ pub fn accept_by(graph: &[u16], s: usize, c: usize) -> usize
 }
 
 // The leaf that all children of state s have, the end child too if there is one; NO_LEAF if there is none such.
-pub fn agreed_leaf(graph: &[u16], s: usize) -> usize
+fn agreed_leaf(graph: &[u16], s: usize) -> usize
     requires { ⌜ graphFits (now graph) ≡ true ⌝ }
     requires { ⌜ s < getD (now graph) 0 0 ⌝ }
     ensures { λ r. ⌜ (r ≡ Option·getD (earlyOf (withEarly (graphFrom (now (graph .entry)))) s) noLeaf) × (r ≤ noLeaf) ⌝ }

@@ -1,4 +1,4 @@
-// The byte edges of a state, grouped by target (document 01, "Edges, costs, masks"), from the words of a graph that refusal 12 takes: the states
+// The byte edges of a state, grouped by target (document 01, "Edges, costs, masks"), from well-formed graph words (refusal 12): the states
 // that they lead to, and the class of the bytes that lead to one. The end step is none of them.
 //
 // They are defined in specs/Edges.antt; what is true of them is in proofs/ByTarget.antt.
@@ -10,6 +10,8 @@ ghost use Rattle.lists.specs.Lists.{tab};
 ghost use Rattle.graph_rules.specs.Graph.{stateOf, graphFrom, graphFits};
 ghost use Rattle.edges.specs.Edges.{classTo, leadsTo};
 ghost use Rattle.graph_rules.specs.Layout.{mostStates};
+use words::STATES;
+use words::graph::target;
 
 // The class of the edge from state s to state u.
 pub fn class_to(graph: &[u16], s: usize, u: usize) -> [bool; 256]
@@ -21,24 +23,25 @@ pub fn class_to(graph: &[u16], s: usize, u: usize) -> [bool; 256]
     let mut class = [false; 256];
     let mut b: usize = 0;
     while b < 256 {
-        class[b] = u == words::graph::word(graph, s, b);
+        class[b] = u == target(graph, s, b);
         b += 1;
     }
     class
 }
 
-// Which states the byte edges of state s lead to: the first n of the 1,024 are the states, and an edge leads to no other (`led-below`).
-pub fn targets(graph: &[u16], s: usize) -> [bool; 1024]
+// Which states the byte edges of state s lead to: the first n of the flags are those of the states, and an edge leads to no
+// other (`led-below`).
+pub fn targets(graph: &[u16], s: usize) -> [bool; STATES]
     requires { ⌜ graphFits (now graph) ≡ true ⌝ }
     requires { ⌜ s < getD (now graph) 0 0 ⌝ }
     ensures { λ r. ⌜ r ≡ tab 0 mostStates (leadsTo (stateOf (graphFrom (now (graph .entry))) s)) ⌝ }
 {
-    let mut found = [false; 1024];
+    let mut found = [false; STATES];
     let mut b: usize = 0;
     while b < 256 {
-        let u = words::graph::word(graph, s, b);
+        let u = target(graph, s, b);
         b += 1;
-        if u < 1024 {
+        if u < STATES {
             found[u] = true;
         }
     }

@@ -144,7 +144,7 @@ pub fn new(table: &[u16], graph: &mut [u16], errors: &mut [u16]) -> BuildAnswer
     if start == 65535 {
         return without_start(n, graph, errors);
     }
-    let count = legal::count_empty(table);
+    let count = conflicts::count_empty(table);
     if count != 0 {
         return with_empty(table, count, n, graph, errors);
     }

@@ -14,7 +14,7 @@ use Rattle.lists.specs.Sets.{In}
 use Rattle.lists.specs.Lists.{allL, below, those, select}
 use Rattle.lists.proofs.Bools.{Is, is, yes-is, no-is, and-both, and-intro, none-some}
 use Rattle.lists.proofs.Elements.{length-nil, all-at, all-intro, length-tab, getD-tab0, map-at}
-use Rattle.lists.proofs.Selections.{none-passes, passes-none}
+use Rattle.lists.proofs.Selecting.{none-passes, passes-none}
 use Rattle.graph_rules.specs.Table.{Table, tableOf, refusal, size, rowOf, step}
 use Rattle.graph_rules.specs.Build.{Error, build, chain, leafOf, reached, present, agreed}
 use Rattle.graph_rules.specs.Read.{Clean}

@@ -11,10 +11,12 @@ use lib.Dec.{eqb}
 use lib.ListN.{getD}
 use Rattle.lists.specs.Lists.{those}
 use Rattle.lists.proofs.Bools.{Is, is, yes-is, no-is}
+use Rattle.lists.proofs.Those.{those-map}
 use Rattle.graph_rules.specs.Table.{Table, tableOf, rowOf, leafAt, matchOf, refusal}
 use Rattle.graph_rules.specs.Build.{chainFrom, chain, highest, contenders, single, leafOf}
 use Rattle.leaves.specs.Chains.{recordsFrom, records, priorityAt, highestFrom, firstWith, topOf, nextTied, tieFrom}
-use Rattle.leaves.proofs.Records.{next-below, head-below}
+use Rattle.leaves.proofs.Records.{next-below}
+use Rattle.graph_rules.proofs.Shape.{head-fits}
 
 -- ---- any table: a chain's leaves are those of its records
 
@@ -39,13 +41,7 @@ module _ (t : Table) where
 
   pub those-leaf : (p : ℕ) (l : List ℕ) → those (λ x. eqb (priorityOf x) p) (map leafOfRecord l) ≡ map leafOfRecord (with p l)
   unfolding priorityAt
-  those-leaf p [] = refl
-  those-leaf p (j ∷ l) = go (is (eqb (priorityAt t j) p)) (those-leaf p l)
-    where
-      go : Is (eqb (priorityAt t j) p) → those (λ x. eqb (priorityOf x) p) (map leafOfRecord l) ≡ map leafOfRecord (with p l)
-          → those (λ x. eqb (priorityOf x) p) (map leafOfRecord (j ∷ l)) ≡ map leafOfRecord (with p (j ∷ l))
-      go (yes-is q) e = rw (q, those) (ap {B = List ℕ} (λ r. leafOfRecord j ∷ r) e)
-      go (no-is q) e = rw (q, those) e
+  those-leaf p l = those-map (λ x. eqb (priorityOf x) p) leafOfRecord l
 
   -- the contenders, by records
   contenders-by : (s : ℕ) → contenders t s ≡ map leafOfRecord (with (highestFrom t (rowOf t s .head)) (records t (rowOf t s .head)))
@@ -191,13 +187,13 @@ module _ (w : List ℕ) (legal : refusal w ≡ 0) where
   pub top-low : (s : ℕ) → topOf t s ≤ getD w 3 0
   unfolding topOf
   top-low s =
-      let h = head-below w legal s in
+      let h = head-fits w legal s in
       let l = first-low (highestFrom t (rowOf t s .head)) (rowOf t s .head) h in
       omega arith
 
   pub contenders-top : (s : ℕ) → contenders t s ≡ tieFrom t (topOf t s)
   unfolding topOf
-  contenders-top s = contenders-by t s ∙ tie-there (highestFrom t (rowOf t s .head)) (rowOf t s .head) (head-below w legal s)
+  contenders-top s = contenders-by t s ∙ tie-there (highestFrom t (rowOf t s .head)) (rowOf t s .head) (head-fits w legal s)
 
   -- ---- a state's leaf
 

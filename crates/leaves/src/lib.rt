@@ -7,6 +7,8 @@ ghost use Rattle.graph_rules.specs.Table.{tableOf, refusal, rowOf, matchOf};
 ghost use Rattle.graph_rules.specs.Build.{leafOf};
 ghost use Rattle.graph_rules.specs.Layout.{noLeaf, matchPlace};
 ghost use Rattle.leaves.specs.Chains.{priorityAt, highestFrom, firstWith, topOf, nextTied};
+use words::graph::NO_LEAF;
+use words::table::HEAD;
 use words::table::leaf_word;
 use words::table::leaves;
 use words::table::match_word;
@@ -19,7 +21,7 @@ pub fn head(table: &[u16], s: usize) -> usize
     requires { ⌜ s < getD (now table) 0 0 ⌝ }
     ensures { λ r. ⌜ (r ≡ rowOf (tableOf (now (table .entry))) s .head) × (r ≤ getD (now (table .entry)) 3 0) ⌝ }
 {
-    row_word(table, leaves(table), s, 257)
+    row_word(table, leaves(table), s, HEAD)
 }
 
 // Word c, 0 or 1, of match record i.
@@ -118,7 +120,7 @@ pub fn next_tied(table: &[u16], i: usize) -> usize
     first_with(table, priority(table, i), match_next(table, i))
 }
 
-// State s's leaf; 255 if its chain is empty, or if several share the highest priority.
+// State s's leaf; NO_LEAF if its chain is empty, or if several share the highest priority.
 pub fn leaf_of(table: &[u16], s: usize) -> usize
     requires { ⌜ refusal (now table) ≡ 0 ⌝ }
     requires { ⌜ s < getD (now table) 0 0 ⌝ }
@@ -126,10 +128,10 @@ pub fn leaf_of(table: &[u16], s: usize) -> usize
 {
     let i = top(table, s);
     if i == 0 {
-        return 255;
+        return NO_LEAF;
     }
     if next_tied(table, i) != 0 {
-        return 255;
+        return NO_LEAF;
     }
     match_leaf(table, i)
 }

@@ -16,7 +16,7 @@ use Rattle.graph_rules.specs.Table.{Leaf, Row, tableOf, rowOf, leafAt, matchOf,
 use Rattle.graph_rules.proofs.Flat.{step-word, head-word, empty-word, leaf-word, next-word}
 use Rattle.legal.specs.Conditions.{states, leaves, records, emptyWord, targetWord, headWord, leafWord, nextWord, Sized, RecordFits}
 use Rattle.legal.proofs.Counts.{leaves-length, rows-length, row-width}
-use Rattle.graph_rules.specs.Layout.{stepCount, headPlace}
+use Rattle.graph_rules.specs.Layout.{stepCount}
 
 module _ (w : List ℕ) where
   -- ---- 5
@@ -34,7 +34,7 @@ module _ (w : List ℕ) where
       → Judged (allL (λ u. ltb u (states w)) (rowOf (tableOf w) s .steps)) stepCount (λ c. targetWord w s c < states w)
   unfolding step
   row-judged z s h =
-      all-judged (λ u. ltb u (states w)) (λ c. targetWord w s c < states w) (rowOf (tableOf w) s .steps) 0 headPlace (row-width w z s h)
+      all-judged (λ u. ltb u (states w)) (λ c. targetWord w s c < states w) (rowOf (tableOf w) s .steps) 0 stepCount (row-width w z s h)
       (λ c b t. lt-ltb (step (tableOf w) s c) (states w) (rw (step-word w s c h b) t))
       (λ c b e. rw (step-word w s c h b) at (ltb-true (step (tableOf w) s c) (states w) e))
 

@@ -14,7 +14,7 @@ use lib.ListN.{length, getD}
 use Rattle.lists.proofs.Bools.{and-both, and-intro, or-cases, or-left, or-right}
 use Rattle.graph_rules.specs.Table.{conditions, firstBroken, refusal, countsFit, emptiesFit, targetsFit, headsFit, recordsFit}
 use Rattle.graph_rules.proofs.Shape.{none-broken}
-use Rattle.graph_rules.specs.Layout.{noState, mostStates, noLeaf, mostMatches, tableLength}
+use Rattle.graph_rules.specs.Layout.{noState, mostStates, mostLeaves, mostMatches, tableLength}
 use Rattle.legal.specs.Conditions.{states, leaves, records, Sized, Legal}
 use Rattle.legal.proofs.Judging.{empties-judged, targets-judged, heads-judged, records-all, records-each}
 
@@ -57,19 +57,19 @@ module _ (w : List ℕ) where
   unfolding conditions countsFit emptiesFit targetsFit headsFit recordsFit
   counts-are n m r a b c = λ i. countsFit (a i) (b i) (c i)
 
-  pub counts-pass : 1 ≤ states w → states w ≤ mostStates → leaves w ≤ noLeaf → records w ≤ mostMatches → getD (conditions w) 1 true ≡ true
+  pub counts-pass : 1 ≤ states w → states w ≤ mostStates → leaves w ≤ mostLeaves → records w ≤ mostMatches → getD (conditions w) 1 true ≡ true
   unfolding conditions countsFit emptiesFit targetsFit headsFit recordsFit
   counts-pass a b c d =
       and-intro (leb 1 (states w)) _ (le-leb 1 (states w) a) (and-intro (leb (states w) mostStates) _ (le-leb (states w) mostStates b)
-      (and-intro (leb (leaves w) noLeaf) _ (le-leb (leaves w) noLeaf c) (le-leb (records w) mostMatches d)))
+      (and-intro (leb (leaves w) mostLeaves) _ (le-leb (leaves w) mostLeaves c) (le-leb (records w) mostMatches d)))
 
-  pub counts-mean : getD (conditions w) 1 true ≡ true → (1 ≤ states w) × (states w ≤ mostStates) × (leaves w ≤ noLeaf) × (records w ≤ mostMatches)
+  pub counts-mean : getD (conditions w) 1 true ≡ true → (1 ≤ states w) × (states w ≤ mostStates) × (leaves w ≤ mostLeaves) × (records w ≤ mostMatches)
   unfolding conditions countsFit emptiesFit targetsFit headsFit recordsFit
   counts-mean e =
       let a = and-both (leb 1 (states w)) _ e in
       let b = and-both (leb (states w) mostStates) _ (a .1) in
-      let c = and-both (leb (leaves w) noLeaf) _ (b .1) in
-      (leb-true 1 (states w) (a .0), leb-true (states w) mostStates (b .0), leb-true (leaves w) noLeaf (c .0), leb-true (records w) mostMatches (c .1))
+      let c = and-both (leb (leaves w) mostLeaves) _ (b .1) in
+      (leb-true 1 (states w) (a .0), leb-true (states w) mostStates (b .0), leb-true (leaves w) mostLeaves (c .0), leb-true (records w) mostMatches (c .1))
 
   pub sized-means : Passed w 3 → Sized w
   unfolding conditions countsFit emptiesFit targetsFit headsFit recordsFit

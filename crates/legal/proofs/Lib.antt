@@ -1,5 +1,4 @@
 pub mod Counts
 pub mod Judging
 pub mod Legal
-pub mod Empties
 pub mod Steps

@@ -5,7 +5,7 @@ use mathlib.Core.List.{List}
 use mathlib.Core.Logic.{_⊎_}
 use Prim.Native.Nat.{ℕ, _≤_, _<_}
 use lib.ListN.{length, getD}
-use Rattle.graph_rules.specs.Layout.{stepCount, noState, mostStates, noLeaf, headPlace, mostMatches, leafPlace, rowPlace, matchPlace, tableLength}
+use Rattle.graph_rules.specs.Layout.{stepCount, noState, mostStates, headPlace, mostLeaves, mostMatches, leafPlace, rowPlace, matchPlace, tableLength}
 
 -- ---- the words, by what they say
 
@@ -43,7 +43,7 @@ pub record Sized (w : List ℕ) : Type 0 where
   pub four : 4 ≤ length w
   pub some-state : 1 ≤ states w
   pub few-states : states w ≤ mostStates
-  pub few-leaves : leaves w ≤ noLeaf
+  pub few-leaves : leaves w ≤ mostLeaves
   pub few-records : records w ≤ mostMatches
   pub exact : length w ≡ tableLength (states w) (leaves w) (records w)
 

@@ -1,9 +1,17 @@
-// Refusals 1 to 7: the conditions on a table's words, judged in document 01's order, so that no word is read that is not there.
+// Refusals 1 to 7: the conditions on a table's words, judged in document 01's order, so that no word is read that is not there. And the steps of a
+// table that is not refused.
 ghost use mathlib.Core.Path.{_≡_};
-ghost use lib.ListN.{length};
-ghost use Rattle.graph_rules.specs.Build.{emptyLeaves};
-ghost use Rattle.graph_rules.specs.Table.{refusal, tableOf, countsFit, emptiesFit, targetsFit, headsFit, recordsFit};
+ghost use Prim.Native.Nat.{_<_};
+ghost use lib.ListN.{getD};
+ghost use Rattle.graph_rules.specs.Table.{refusal, tableOf, step, countsFit, emptiesFit, targetsFit, headsFit, recordsFit};
+ghost use Rattle.graph_rules.specs.Layout.{stepCount};
 ghost use Rattle.legal.specs.Conditions.{Sized};
+use words::NONE;
+use words::STATES;
+use words::STEPS;
+use words::table::HEAD;
+use words::table::LEAVES;
+use words::table::MATCHES;
 use words::table::leaf_word;
 use words::table::leaves;
 use words::table::match_word;
@@ -31,7 +39,7 @@ pub fn check(table: &[u16]) -> usize
     }
     let s = start(table);
     if n <= s {
-        if s != 65535 {
+        if s != NONE {
             return 4;
         }
     }
@@ -57,13 +65,13 @@ fn counts_fit(n: usize, m: usize, r: usize) -> bool
     if n < 1 {
         return false;
     }
-    if 1024 < n {
+    if STATES < n {
         return false;
     }
-    if 255 < m {
+    if LEAVES < m {
         return false;
     }
-    r <= 4095
+    r <= MATCHES
 }
 
 // Condition 5.
@@ -92,7 +100,7 @@ fn targets_fit(table: &[u16]) -> bool
     let mut s: usize = 0;
     while s < n {
         let mut c: usize = 0;
-        while c < 257 {
+        while c < STEPS {
             if n <= row_word(table, m, s, c) {
                 return false;
             }
@@ -113,7 +121,7 @@ fn heads_fit(table: &[u16]) -> bool
     let r = records(table);
     let mut s: usize = 0;
     while s < n {
-        if r < row_word(table, m, s, 257) {
+        if r < row_word(table, m, s, HEAD) {
             return false;
         }
         s += 1;
@@ -149,19 +157,12 @@ fn records_fit(table: &[u16]) -> bool
     true
 }
 
-// How many leaves can match empty text (rule 1).
-pub fn count_empty(table: &[u16]) -> usize
+// The target of state s by byte c, or by the end step.
+pub fn step(table: &[u16], s: usize, c: usize) -> usize
     requires { ⌜ refusal (now table) ≡ 0 ⌝ }
-    ensures { λ r. ⌜ r ≡ length (emptyLeaves (tableOf (now (table .entry)))) ⌝ }
+    requires { ⌜ s < getD (now table) 0 0 ⌝ }
+    requires { ⌜ c < stepCount ⌝ }
+    ensures { λ r. ⌜ (r ≡ step (tableOf (now (table .entry))) s c) × (r < getD (now (table .entry)) 0 0) ⌝ }
 {
-    let m = leaves(table);
-    let mut count: usize = 0;
-    let mut l: usize = 0;
-    while l < m {
-        if leaf_word(table, l, 2) == 1 {
-            count += 1;
-        }
-        l += 1;
-    }
-    count
+    row_word(table, leaves(table), s, c)
 }

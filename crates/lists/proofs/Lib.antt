@@ -13,7 +13,6 @@ pub mod Padding
 pub mod Buffers
 pub mod Rising
 pub mod Sorted
-pub mod Selections
 pub mod Grid
 pub mod Runs
 pub mod Members
@@ -21,3 +20,4 @@ pub mod Intervals
 pub mod Selecting
 pub mod Numbers
 pub mod Reports
+pub mod Flattened

@@ -1,4 +1,5 @@
--- The elements at the members of a set, gathered from the front. Assumes nothing.
+-- The elements at the members of a set: gathered from the front; from a place on, where the first is taken or passed; and those of them that pass a
+-- test. Assumes nothing.
 use mathlib.Core.Path.{_≡_, refl, sym, ap}
 use mathlib.Core.Bool.{Bool, true, false, false≢true}
 use mathlib.Core.List.{List, [], _∷_, _++_}
@@ -6,9 +7,11 @@ use Prim.Native.Nat.{ℕ, zero, suc, _+_, _≤_, _<_, zero-le, suc-le-suc}
 use native.Mathlib.Nat.{not-suc-le-zero, le-of-suc-le-suc}
 use native.Mathlib.Numerals.{add-one}
 use native.Mathlib.Omega.{arith}
-use lib.ListN.{length, getD, take}
-use Rattle.lists.specs.Lists.{select}
+use lib.ListN.{length, getD, take, drop}
+use Rattle.lists.specs.Lists.{those, select}
 use Rattle.lists.specs.Sets.{In}
+use Rattle.lists.proofs.Bools.{Is, is, yes-is, no-is}
+use Rattle.lists.proofs.Elements.{nil-cons}
 
 module _ {A : Type 0} (d : A) where
   -- each was an element
@@ -68,3 +71,47 @@ module _ {A : Type 0} where
   select-few (b ∷ keep) [] (suc n) = zero-le
   select-few (true ∷ keep) (x ∷ l) (suc n) = suc-le-suc (select-few keep l n)
   select-few (false ∷ keep) (x ∷ l) (suc n) = let h = select-few keep l n in omega arith
+
+-- ---- from a place on
+
+module _ {A : Type 0} where
+  pub select-here : (set : List Bool) (s : ℕ) (x : A) (l : List A) → getD set s false ≡ true → select (drop s set) (x ∷ l) ≡ x ∷ select (drop (suc s) set) l
+  select-here [] s x l h = absurd (false≢true h)
+  select-here (true ∷ set) zero x l h = refl
+  select-here (false ∷ set) zero x l h = absurd (false≢true h)
+  select-here (b ∷ set) (suc s) x l h = select-here set s x l h
+
+  pub select-past : (set : List Bool) (s : ℕ) (x : A) (l : List A) → getD set s false ≡ false → select (drop s set) (x ∷ l) ≡ select (drop (suc s) set) l
+  select-past [] zero x l h = refl
+  select-past [] (suc s) x l h = refl
+  select-past (true ∷ set) zero x l h = absurd (false≢true (sym h))
+  select-past (false ∷ set) zero x l h = refl
+  select-past (b ∷ set) (suc s) x l h = select-past set s x l h
+
+  pub select-none : (set : List Bool) → select {A = A} set [] ≡ []
+  select-none [] = refl
+  select-none (b ∷ set) = refl
+
+-- ---- those at the members that pass a test: none, just if none passes
+
+module _ {A : Type 0} (p : A → Bool) (d : A) where
+  pub none-passes : (set : List Bool) (l : List A) → those p (select set l) ≡ [] → (i : ℕ) → i < length l → In set i → p (getD l i d) ≡ false
+  none-passes [] l e i h m = absurd (false≢true m)
+  none-passes (b ∷ set) [] e i h m = absurd (not-suc-le-zero h)
+  none-passes (false ∷ set) (x ∷ l) e zero h m = absurd (false≢true m)
+  none-passes (false ∷ set) (x ∷ l) e (suc i) h m = none-passes set l e i (le-of-suc-le-suc h) m
+  none-passes (true ∷ set) (x ∷ l) e i h m = go (is (p x)) (none-passes set l) i h m
+    where
+      go : Is (p x) → (those p (select set l) ≡ [] → (i : ℕ) → i < length l → In set i → p (getD l i d) ≡ false)
+          → (i : ℕ) → i < length (x ∷ l) → In (true ∷ set) i → p (getD (x ∷ l) i d) ≡ false
+      go (yes-is q) f i h m = absurd (nil-cons (rw (q, those) at e))
+      go (no-is q) f zero h m = q
+      go (no-is q) f (suc i) h m = f (rw (q, those) at e) i (le-of-suc-le-suc h) m
+
+  pub passes-none : (set : List Bool) (l : List A) → ((i : ℕ) → i < length l → In set i → p (getD l i d) ≡ false) → those p (select set l) ≡ []
+  passes-none [] l f = refl
+  passes-none (b ∷ set) [] f = refl
+  passes-none (false ∷ set) (x ∷ l) f = passes-none set l (λ i h. f (suc i) (suc-le-suc h))
+  passes-none (true ∷ set) (x ∷ l) f =
+      let q : p x ≡ false = f 0 (suc-le-suc zero-le) refl in
+      rw (q, those) (passes-none set l (λ i h. f (suc i) (suc-le-suc h)))

@@ -17,7 +17,7 @@ use Rattle.mask_store.specs.declared.AddAnswer.the-variants.{Number, Ref
 use Rattle.mask_store.specs.declared.Added.{Added}
 use Rattle.bits.specs.Bits.{bit}
 use Rattle.mask_store.specs.Masks.{add, addReport, classAt, held, heldWith, numberOf, among, written, writtenAll, grown, storeOf, allowed, takes, refusedWith}
-use Rattle.mask_store.proofs.Numbers.{number-at, number-most, number-back, number-here, same-self}
+use Rattle.mask_store.proofs.Numbers.{number-at, number-most}
 use Rattle.mask_store.proofs.Search.{allowed-count}
 use Rattle.mask_store.proofs.MaskLaws.{length-held, held-at, length-written, class-own, class-other, bits-after, table-at}
 use Rattle.mask_store.proofs.Growth.{whole, grown-none, grown-allowed}
@@ -45,16 +45,6 @@ module _ (s : MaskStore) (c : Class) where
 
   length-new : among (held s) c ≡ false → length (heldWith s (c ∷ [])) ≡ s .count + 1
   length-new n = ap length (with-new n) ∙ length-append (held s) (c ∷ []) ∙ ap (λ (k : ℕ). k + 1) (length-held s)
-
-  -- the number that is answered is the class's in the store after it
-  pub number-after : numberOf (heldWith s (c ∷ [])) c ≡ numberOf (held s) c
-  number-after = go (is (among (held s) c))
-    where
-      go : Is (among (held s) c) → numberOf (heldWith s (c ∷ [])) c ≡ numberOf (held s) c
-      go (yes-is q) = rw (with-held q)
-      go (no-is n) =
-          let k : length (held s) ≤ numberOf (held s) c = ltb-false _ _ n in
-          rw (with-new n) (number-back (held s) (c ∷ []) c k ∙ omega (arith, number-here c c [] (same-self c), number-most (held s) c))
 
   pub grown-new : among (held s) c ≡ false → grown s (c ∷ []) ≡ storeOf (written (s .tables) (s .count) c) (s .count + 1)
   unfolding grown
@@ -164,7 +154,7 @@ module _ (s : MaskStore) (c : Class) (size : length (s .tables) ≡ 2048) (wide 
       go (case-full a n h) = rw (add-full s c a n h, takes-one s c, a, n, le-ltb (s .count) 64 h)
 
   -- Every bit of the store after the call: bit k of byte b of table t belongs to mask 8 t + k. Only if the class is taken and is new, and only in
-  -- the mask that it becomes, a bit is written, and it is then the class's flag. Every other bit is as it was, also those of masks that mean nothing.
+  -- the mask that it becomes, a bit is written, and it is then the class's flag. Every other bit is unchanged, also those of masks that mean nothing.
   pub add-bits : (t b k : ℕ) → b < 256 → k < 8
       → bit (getD (add s c .store .tables) (256 * t + b) 0) k
       ≡ cond (grows && eqb (8 * t + k) (s .count)) (cond (has c b) 1 0) (bit (getD (s .tables) (256 * t + b) 0) k)

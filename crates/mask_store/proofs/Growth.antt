@@ -109,10 +109,6 @@ module _ (s : MaskStore) (cs : List Class) (size : length (s .tables) ≡ 2048) 
       let l′ : i < grown s cs .count = omega (arith, ap length held-grown, length-held (grown s cs)) in
       (l′, sym (held-at (grown s cs) i l′) ∙ ap (λ (x : List Class). getD x i []) held-grown ∙ number-at (heldWith s cs) c l)
 
-  -- a class that was held keeps its number
-  pub old-held : (i : ℕ) → i < s .count → classAt (grown s cs .tables) i ≡ classAt (s .tables) i
-  old-held i l = ap (λ (t : List ℕ). classAt t i) tables-are ∙ all-before (s .tables) (s .count) (grows .new) size fits i l
-
   pub all-given : allL (among (heldWith s cs)) cs ≡ true
   unfolding heldWith
   all-given = met-has (held s) cs

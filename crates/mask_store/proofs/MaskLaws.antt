@@ -136,7 +136,7 @@ module _ (tables : List ℕ) (i : ℕ) (c : Class) (size : length tables ≡ 204
   unfolding written tableAt
   table-own = ap (take 256) (drop-at front (middle ++ back) at front-length) ∙ take-at middle back 256 middle-length
 
-  -- and every other is as it was
+  -- and every other is unchanged
   pub table-other : (t : ℕ) → (t ≡ i / 8 → ⊥) → tableAt (written tables i c) t ≡ tableAt tables t
   unfolding written tableAt
   table-other t n = go (order t (i / 8))
@@ -165,7 +165,7 @@ module _ (tables : List ℕ) (i : ℕ) (c : Class) (size : length tables ≡ 204
   unfolding classAt
   class-own w = ap (map (isSet (i % 8))) table-own ∙ own-bits (i % 8) (tableAt tables (i / 8)) c (table-length ∙ sym w)
 
-  -- and every other is as it was, also those that are not held
+  -- and every other is unchanged, also those that are not held
   pub class-other : (j : ℕ) → (j ≡ i → ⊥) → classAt (written tables i c) j ≡ classAt tables j
   unfolding classAt
   class-other j n = go (is (eqb (j / 8) (i / 8)))

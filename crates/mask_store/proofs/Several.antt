@@ -1,7 +1,7 @@
 -- Several classes added one after another, as planning adds them: what 15 says of all of them is what the additions answer. Assumes nothing.
 use mathlib.Core.Path.{_≡_, sym, ap, _∙_}
-use mathlib.Core.Bool.{true, false}
-use mathlib.Core.List.{List, [], _∷_, _++_}
+use mathlib.Core.Bool.{true}
+use mathlib.Core.List.{List, _++_}
 use Prim.Native.Nat.{_≤_}
 use native.Mathlib.Omega.{arith}
 use borrow.Author.Tests.{le-leb, leb-true}
@@ -10,11 +10,9 @@ use Rattle.lists.specs.Lists.{allL}
 use Rattle.lists.proofs.Bools.{and-both, and-intro}
 use Rattle.classes.specs.Classes.{Class}
 use Rattle.mask_store.specs.declared.MaskStore.{MaskStore}
-use Rattle.mask_store.specs.declared.AddAnswer.the-variants.{Number, Refused}
-use Rattle.mask_store.specs.Masks.{add, held, heldWith, numberOf, met, grown, allowed, takes}
+use Rattle.mask_store.specs.Masks.{held, heldWith, met, grown, allowed, takes}
 use Rattle.mask_store.proofs.Numbers.{met-append, met-split}
-use Rattle.mask_store.proofs.Growth.{whole, held-grown, grown-allowed, grown-append}
-use Rattle.mask_store.proofs.Adding.{number-after}
+use Rattle.mask_store.proofs.Growth.{whole, held-grown, grown-allowed}
 
 -- a store that takes some classes and more takes the first of them
 pub takes-front : (s : MaskStore) (a b : List Class) → takes s (a ++ b) ≡ true → takes s a ≡ true
@@ -43,14 +41,3 @@ module _ (s : MaskStore) (a : List Class) (size : length (s .tables) ≡ 2048) (
   pub takes-rest : (b : List Class) → takes (grown s a) b ≡ takes s (a ++ b)
   unfolding takes
   takes-rest b = rw (takes-allowed, and-both (allowed s) _ t .0, held-then b)
-
-  -- one class more: its number is that which it has among all
-  pub add-next : (c : Class) → takes s (a ++ c ∷ []) ≡ true
-      → add (grown s a) c ≡ record { answer = Number (numberOf (heldWith s (a ++ c ∷ [])) c); store = grown s (a ++ c ∷ []) }
-  unfolding add
-  add-next c u = rw (takes-rest (c ∷ []), u, ← number-after (grown s a) c, held-then (c ∷ []), ← grown-append s a (c ∷ []) size wide takes-room)
-
-  -- or 15
-  pub add-stops : (c : Class) → takes s (a ++ c ∷ []) ≡ false → add (grown s a) c ≡ record { answer = Refused 15; store = grown s a }
-  unfolding add
-  add-stops c u = rw (takes-rest (c ∷ []), u)

@@ -66,7 +66,7 @@ module _ (tables : List ℕ) (i : ℕ) (c : Class) (size : length tables ≡ 204
   place : length front + b ≡ at + b
   place = omega (arith, front-length tables i (take b c) size room)
 
-  -- the next byte is still as it was
+  -- the next byte is still unchanged
   pub written-ahead : getD (written tables i (take b c)) (at + b) 0 ≡ getD tables (at + b) 0
   unfolding written
   written-ahead =

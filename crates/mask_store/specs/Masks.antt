@@ -92,7 +92,7 @@ allowed s = leb (s .count) 64 && noneTwice (held s)
 unfoldable pub takes : MaskStore → List Class → Bool
 takes s cs = allowed s && leb (length (heldWith s cs)) 64
 
--- the call: one class. Its number and the grown store; or 15, and the store as it was.
+-- the call: one class. Its number and the grown store; or 15, and the store unchanged.
 
 abbrev pub refusedWith : MaskStore → Added
 refusedWith s = record { answer = Refused 15; store = s }

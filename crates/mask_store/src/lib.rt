@@ -30,13 +30,13 @@ pub struct Added {
 
 // ---- adding a class
 
-// 15, and the store as it was.
-fn refused(as_found: MaskStore) -> Added
-    ensures { λ r. ⌜ r ≡ refusedWith as_found ⌝ }
+// 15, and the store unchanged.
+fn refused(store: MaskStore) -> Added
+    ensures { λ r. ⌜ r ≡ refusedWith store ⌝ }
 {
     Added {
         answer: AddAnswer::Refused(15),
-        store: as_found,
+        store: store,
     }
 }
 

@@ -17,7 +17,7 @@ pub fn mask_has(tables: &[u8; 2048], i: usize, byte: u8) -> bool
 }
 
 // Mask i as a class.
-pub fn class_at(tables: &[u8; 2048], i: usize) -> [bool; 256]
+pub(crate) fn class_at(tables: &[u8; 2048], i: usize) -> [bool; 256]
     requires { ⌜ (i < 64) × (length (now tables) ≡ 2048) ⌝ }
     ensures { λ r. ⌜ r ≡ classAt (now (tables .entry)) i ⌝ }
 {
@@ -29,7 +29,7 @@ pub fn class_at(tables: &[u8; 2048], i: usize) -> [bool; 256]
 }
 
 // The class is written as mask i: 0 or 1 for each byte, and no other bit.
-pub fn write_mask(tables: &mut [u8; 2048], i: usize, class: &[bool; 256])
+pub(crate) fn write_mask(tables: &mut [u8; 2048], i: usize, class: &[bool; 256])
     requires { ⌜ (i < 64) × (length (now tables) ≡ 2048) × (length (now class) ≡ 256) ⌝ }
     ensures { λ _. ⌜ now (tables .exit) ≡ written (now (tables .entry)) i (now (class .entry)) ⌝ }
 {

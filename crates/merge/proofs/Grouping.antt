@@ -5,8 +5,8 @@ use mathlib.Core.Bool.{Bool, true, false, cond, false≢true}
 use mathlib.Core.List.{List, [], _∷_, _++_}
 use mathlib.Core.Option.{Option, none, some}
 use mathlib.Core.Logic.{⊎-elim}
-use Prim.Native.Nat.{ℕ, zero, suc, _+_, _≤_, _<_, zero-le, suc-le-suc}
-use native.Mathlib.Nat.{not-suc-le-zero, le-of-suc-le-suc}
+use Prim.Native.Nat.{ℕ, suc, _+_, _≤_, _<_}
+use native.Mathlib.Nat.{not-suc-le-zero}
 use native.Mathlib.Numerals.{add-one}
 use native.Mathlib.Omega.{arith}
 use borrow.Author.Count.{below-more}
@@ -14,7 +14,8 @@ use lib.ListN.{length, getD, set, take, drop, replicate, length-map, length-appe
 use lib.Seq.{getD-set-same, getD-set-other, getD-take, length-take-le, split-at, take-suc, take-all, take-set-le}
 use Rattle.lists.specs.Lists.{anyL, select, distinct, place}
 use Rattle.lists.specs.Sets.{In}
-use Rattle.lists.proofs.Bools.{Is, is, yes-is, no-is, or-left, or-right, lt-or-le}
+use Rattle.lists.proofs.Any.{any-at, any-found}
+use Rattle.lists.proofs.Bools.{Is, is, yes-is, no-is, lt-or-le}
 use Rattle.lists.proofs.Distinct.{distinct-length, distinct-new, distinct-snoc}
 use Rattle.lists.proofs.Elements.{map-at}
 use Rattle.lists.proofs.Padding.{default-any, replicate-at}
@@ -29,18 +30,6 @@ use Rattle.merge.specs.Equals.{Lowest}
 use Rattle.relabel.specs.Names.{namesOf, Fitting}
 use Rattle.relabel.proofs.Naming.{relabel-alike, fitting-alike, round-fitting}
 use Rattle.graph_rules.specs.Layout.{noState, mostStates}
-
--- ---- an element that equals one of a list
-
-module _ {A : Type 0} (d : A) (p : A → Bool) where
-  any-one : (l : List A) (i : ℕ) → i < length l → p (getD l i d) ≡ true → anyL p l ≡ true
-  any-one [] i h e = absurd (not-suc-le-zero h)
-  any-one (x ∷ l) zero h e = or-left _ _ e
-  any-one (x ∷ l) (suc i) h e = or-right (p x) _ (any-one l i (le-of-suc-le-suc h) e)
-
-  any-none : (l : List A) → ((i : ℕ) → i < length l → p (getD l i d) ≡ false) → anyL p l ≡ false
-  any-none [] f = refl
-  any-none (x ∷ l) f = rw (f 0 (suc-le-suc zero-le)) (any-none l (λ i h. f (suc i) (suc-le-suc h)))
 
 module _ (g : Graph) where
   -- the distinct states of those before s
@@ -68,14 +57,18 @@ module _ (g : Graph) where
     size = length-take-le s (g .states) (omega arith)
 
     met : (r : ℕ) → r < s → stateOf g r ≡ x → anyL (same x) (take s (g .states)) ≡ true
-    met r b e = let z = size in any-one blank (same x) (take s (g .states)) r (omega arith) (ap (same x) (at r b ∙ e) ∙ same-sound .self x)
+    met r b e = let z = size in any-at (same x) blank (take s (g .states)) r (omega arith) (ap (same x) (at r b ∙ e) ∙ same-sound .self x)
 
     new : ((j : ℕ) → j < s → stateOf g j ≡ x → ⊥) → anyL (same x) (take s (g .states)) ≡ false
-    new f = any-none blank (same x) (take s (g .states)) (λ j b. let z = size in let b′ : j < s = omega arith in go j b′ (is (same x (getD (take s (g .states)) j blank))))
+    new f = go (is (anyL (same x) (take s (g .states))))
       where
-        go : (j : ℕ) → j < s → Is (same x (getD (take s (g .states)) j blank)) → same x (getD (take s (g .states)) j blank) ≡ false
-        go j b (no-is q) = q
-        go j b (yes-is q) = absurd (f j b (sym (at j b) ∙ sym (same-sound .eq x (getD (take s (g .states)) j blank) q)))
+        go : Is (anyL (same x) (take s (g .states))) → anyL (same x) (take s (g .states)) ≡ false
+        go (no-is q) = q
+        go (yes-is q) =
+            let (j, b, e) = any-found (same x) blank (take s (g .states)) q in
+            let z = size in
+            let b′ : j < s = omega arith in
+            absurd (f j b′ (sym (at j b′) ∙ sym (same-sound .eq x (getD (take s (g .states)) j blank) e)))
 
     pub groups-met : (r : ℕ) → r < s → stateOf g r ≡ stateOf g s → groups (s + 1) ≡ groups s
     groups-met r b e = grown ∙ rw (met r b e)

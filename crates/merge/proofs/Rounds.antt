@@ -1,40 +1,22 @@
 -- The rounds of rule 8: how the merge goes on after one, and the words after some. Assumes nothing.
 use mathlib.Core.Path.{_≡_, refl, sym, ap, _∙_}
 use mathlib.Core.Bool.{true, false}
-use mathlib.Core.List.{List, _++_}
-use Prim.Native.Nat.{ℕ, zero, suc, _+_, _*_, _≤_, _<_}
+use mathlib.Core.List.{List}
+use Prim.Native.Nat.{ℕ, zero, suc, _≤_, _<_}
 use native.Mathlib.Nat.{not-suc-le-zero}
 use native.Mathlib.Omega.{arith}
-use borrow.Author.Tests.{eqb-false}
 use lib.ListN.{length, getD, drop}
-use Rattle.lists.specs.Lists.{distinct}
 use Rattle.lists.proofs.Bools.{Is, is, yes-is, no-is}
-use Rattle.lists.proofs.Distinct.{distinct-length}
-use Rattle.graph_rules.specs.Graph.{Graph, same, graphFits, graphFrom, graphBuffer}
+use Rattle.graph_rules.specs.Graph.{Graph, graphFits, graphFrom, writtenOn, rewritten}
 use Rattle.graph_rules.specs.Build.{mergeRound, mergesNone, mergeFor, merged}
 use Rattle.graph_rules.proofs.Fits.{Fits, round-fits}
-use Rattle.graph_rules.proofs.Merge.{same-sound, round-length}
+use Rattle.graph_rules.proofs.Merge.{stops, goes-on, round-fewer}
 use Rattle.graph_rules.proofs.Flat.{from-length}
 use Rattle.words.proofs.GraphWords.{taken-fits}
 use Rattle.words.proofs.Buffers.{buffer-back, taken-words, written-over}
 use Rattle.graph_rules.specs.Layout.{mostStates, graphSize, noLeaf}
 
 -- ---- rounds
-
-stops : (k : ℕ) (g : Graph) → mergesNone g ≡ true → mergeFor (suc k) g .graph ≡ g
-stops k g e = rw (e, mergeFor)
-
-goes-on : (k : ℕ) (g : Graph) → mergesNone g ≡ false → mergeFor (suc k) g .graph ≡ mergeFor k (mergeRound g) .graph
-goes-on k g e = rw (e, mergeFor)
-
--- a round that merges has fewer states
-pub round-fewer : (g : Graph) → mergesNone g ≡ false → length (mergeRound g .states) < length (g .states)
-unfolding mergesNone
-round-fewer g e =
-    let a : length (distinct same (g .states)) ≤ length (g .states) = distinct-length same same-sound (g .states) in
-    let b : length (distinct same (g .states)) ≡ length (g .states) → ⊥ = eqb-false (length (distinct same (g .states))) (length (g .states)) e in
-    let c : length (mergeRound g .states) ≡ length (distinct same (g .states)) = round-length g in
-    omega (arith, b)
 
 -- more rounds than states change nothing
 enough : (k j : ℕ) (g : Graph) → length (g .states) < k → length (g .states) < j → mergeFor k g .graph ≡ mergeFor j g .graph
@@ -44,20 +26,18 @@ enough (suc k) (suc j) g h l = go (is (mergesNone g)) (enough k j (mergeRound g)
   where
     go : Is (mergesNone g) → (length (mergeRound g .states) < k → length (mergeRound g .states) < j → mergeFor k (mergeRound g) .graph ≡ mergeFor j (mergeRound g) .graph)
         → mergeFor (suc k) g .graph ≡ mergeFor (suc j) g .graph
-    go (yes-is q) f = stops k g q ∙ sym (stops j g q)
-    go (no-is q) f =
-        let a = round-fewer g q in
-        goes-on k g q ∙ f (omega arith) (omega arith) ∙ sym (goes-on j g q)
+    go (yes-is q) f = rw (stops k g q, stops j g q)
+    go (no-is q) f = let a = round-fewer g q in rw (goes-on k g q, goes-on j g q) (f (omega arith) (omega arith))
 
 pub merged-stops : (g : Graph) → mergesNone g ≡ true → merged g .graph ≡ g
 unfolding merged
-merged-stops g e = stops (length (g .states)) g e
+merged-stops g e = rw (stops (length (g .states)) g e)
 
 pub merged-goes : (g : Graph) → mergesNone g ≡ false → merged (mergeRound g) .graph ≡ merged g .graph
 unfolding merged
 merged-goes g e =
     let a = round-fewer g e in
-    enough (suc (length (mergeRound g .states))) (length (g .states)) (mergeRound g) (omega arith) (omega arith) ∙ sym (goes-on (length (g .states)) g e)
+    rw (goes-on (length (g .states)) g e) (enough (suc (length (mergeRound g .states))) (length (g .states)) (mergeRound g) (omega arith) (omega arith))
 
 -- ---- the words after some rounds: w₀ at the beginning
 
@@ -65,7 +45,7 @@ pub record Merging (w₀ w : List ℕ) : Type 0 where
   pub taken : graphFits w ≡ true
   pub len : length w ≡ length w₀
   pub fits : Fits noLeaf (getD w₀ 0 0) (graphFrom w)
-  pub buffer : w ≡ graphBuffer (getD w₀ 0 0) (graphFrom w) ++ drop (graphSize (getD w₀ 0 0)) w₀
+  pub buffer : w ≡ writtenOn (getD w₀ 0 0) (graphFrom w) w₀
   pub left : merged (graphFrom w) .graph ≡ merged (graphFrom w₀) .graph
 
 pub merging-none : (w₀ : List ℕ) → graphFits w₀ ≡ true → ((i : ℕ) → getD w₀ i 0 < 65536) → Merging w₀ w₀
@@ -82,16 +62,16 @@ module _ (w₀ : List ℕ) (few : getD w₀ 0 0 ≤ mostStates) (w : List ℕ) (
   abbrev rest : List ℕ
   rest = drop (graphSize n) w₀
 
-  pub merging-done : mergesNone (graphFrom w) ≡ true → w ≡ graphBuffer (getD w₀ 0 0) (merged (graphFrom w₀) .graph) ++ drop (graphSize (getD w₀ 0 0)) w₀
-  merging-done e = m .buffer ∙ ap (λ (x : Graph). graphBuffer n x ++ rest) (sym (merged-stops g e) ∙ m .left)
+  pub merging-done : mergesNone (graphFrom w) ≡ true → w ≡ rewritten (λ g. merged g .graph) w₀
+  merging-done e = m .buffer ∙ ap (λ (x : Graph). writtenOn n x w₀) (sym (merged-stops g e) ∙ m .left)
 
   module _ (e : mergesNone (graphFrom w) ≡ false) (v : List ℕ)
-      (round : v ≡ graphBuffer (getD w 0 0) (mergeRound (graphFrom w)) ++ drop (graphSize (getD w 0 0)) w) where
-    written : v ≡ graphBuffer n (mergeRound g) ++ rest
+      (round : v ≡ rewritten mergeRound w) where
+    written : v ≡ writtenOn n (mergeRound g) w₀
     written =
         let fewer = round-fewer g e in
-        round ∙ ap (λ (k : ℕ). graphBuffer k (mergeRound g) ++ drop (graphSize k) w) (sym (from-length w))
-        ∙ ap (λ (x : List ℕ). graphBuffer (length (g .states)) (mergeRound g) ++ drop (graphSize (length (g .states))) x) (m .buffer)
+        round ∙ ap (λ (k : ℕ). writtenOn k (mergeRound g) w) (sym (from-length w))
+        ∙ ap (writtenOn (length (g .states)) (mergeRound g)) (m .buffer)
         ∙ written-over noLeaf n (omega arith) few g (m .fits) (mergeRound g) (omega arith) rest
 
     read : graphFrom v ≡ mergeRound g

@@ -1,52 +1,51 @@
--- Two states are equal where all their words are, and differ where one word does. Assumes nothing.
-use mathlib.Core.Path.{_≡_, sym, ap, _∙_}
-use mathlib.Core.Bool.{true}
-use mathlib.Core.List.{List, []}
-use mathlib.Core.Option.{none, Option·getD}
-use mathlib.Core.Logic.{⊎-elim}
-use Prim.Native.Nat.{ℕ, _+_, _*_, _<_}
+-- Two states of well-formed graph words, compared by the words of their leaves and targets. Assumes nothing.
+use mathlib.Core.Path.{_≡_, sym, _∙_}
+use mathlib.Core.Bool.{true, false}
+use mathlib.Core.List.{List}
+use mathlib.Core.Option.{Option, some, none, Option·getD}
+use Prim.Native.Nat.{ℕ, _<_}
 use native.Mathlib.Omega.{arith}
-use lib.ListN.{getD, drop}
+use lib.ListN.{getD}
 use lib.Seq.{ext-getD}
-use Rattle.lists.specs.Lists.{pieces}
-use Rattle.lists.proofs.Bools.{lt-or-le}
-use Rattle.lists.proofs.Elements.{map-at}
-use Rattle.lists.proofs.Pieces.{pieces-length, piece-word}
-use Rattle.graph_rules.specs.Graph.{State, blank, stateOf, to, acceptOf, earlyOf, stateFrom, graphFrom, graphFits}
-use Rattle.graph_rules.proofs.Flat.{piece-length, from-to}
-use Rattle.graph_rules.proofs.Taken.{taken-long}
-use Rattle.graph_rules.proofs.Nones.{or-same}
-use Rattle.words.proofs.GraphWords.{accept-is, early-is}
-use Rattle.graph_rules.specs.Layout.{stepCount, noState, rowWords, marksPlace, graphPlace, noLeaf}
+use Rattle.lists.proofs.Bools.{Is, is, yes-is, no-is}
+use Rattle.graph_rules.specs.Layout.{stepCount, noState, noLeaf}
+use Rattle.graph_rules.specs.Graph.{State, stateOf, to, acceptOf, earlyOf, same, graphFrom, graphFits}
+use Rattle.graph_rules.proofs.Flat.{from-width}
+use Rattle.graph_rules.proofs.Merge.{same-sound}
+use Rattle.graph_rules.proofs.Nones.{word-inj}
+use Rattle.graph_rules.proofs.Taken.{taken-few, taken-long}
+use Rattle.words.proofs.GraphWords.{from-edge, accept-leaf, early-leaf}
 
-module _ (w : List ℕ) (taken : graphFits w ≡ true) (s t : ℕ) (hs : s < getD w 0 0) (ht : t < getD w 0 0) where
-  abbrev rows : List (List ℕ)
-  rows = pieces rowWords (getD w 0 0) (drop 2 w)
+pub states-differ : (a b : State) → (a ≡ b → ⊥) → same a b ≡ false
+states-differ a b n = go (is (same a b))
+  where
+    go : Is (same a b) → same a b ≡ false
+    go (no-is q) = q
+    go (yes-is q) = absurd (n (same-sound .eq a b q))
 
-  pub words-equal : ((c : ℕ) → c < rowWords → getD w (graphPlace s c) 0 ≡ getD w (graphPlace t c) 0) → stateOf (graphFrom w) s ≡ stateOf (graphFrom w) t
-  unfolding stateOf graphFrom
-  words-equal same =
-      let long = taken-long w taken in
-      let a = piece-length w long s hs in
-      let row : getD rows s [] ≡ getD rows t [] =
-      ext-getD 0 (getD rows s []) (getD rows t []) (a ∙ sym (piece-length w long t ht)) (λ c h.
-      let b : c < rowWords = omega arith in
-      piece-word w 2 rowWords (getD w 0 0) s c 0 hs b ∙ same c b ∙ sym (piece-word w 2 rowWords (getD w 0 0) t c 0 ht b)) in
-      map-at stateFrom rows s [] blank (rw (pieces-length rowWords (getD w 0 0) (drop 2 w)) hs)
-      ∙ ap stateFrom row
-      ∙ sym (map-at stateFrom rows t [] blank (rw (pieces-length rowWords (getD w 0 0) (drop 2 w)) ht))
+pub states-same : (a b : State) → a ≡ b → same a b ≡ true
+states-same a b e = rw e (same-sound .self b)
 
-  pub equal-words : stateOf (graphFrom w) s ≡ stateOf (graphFrom w) t → (c : ℕ) → c < rowWords → getD w (graphPlace s c) 0 ≡ getD w (graphPlace t c) 0
-  unfolding to acceptOf earlyOf
-  equal-words e c h =
-      ⊎-elim
-      (λ b.
-      or-same noState (getD w (graphPlace s c) 0) (getD w (graphPlace t c) 0)
-      (sym (from-to w (taken-long w taken) s hs c b) ∙ ap (λ (x : State). getD (x .steps) c none) e ∙ from-to w (taken-long w taken) t ht c b))
-      (λ b.
-      let z : c ≡ stepCount = omega arith in
-      let x = sym (accept-is w taken s hs) ∙ ap (λ (x : State). Option·getD (x .accept) noLeaf) e ∙ accept-is w taken t ht in
-      let y = sym (early-is w taken s hs) ∙ ap (λ (x : State). Option·getD (x .early) noLeaf) e ∙ early-is w taken t ht in
-      let q : getD w (graphPlace s marksPlace) 0 ≡ getD w (graphPlace t marksPlace) 0 = omega arith in
-      ap (λ (d : ℕ). getD w (graphPlace s d) 0) z ∙ q ∙ ap (λ (d : ℕ). getD w (graphPlace t d) 0) (sym z))
-      (lt-or-le c stepCount)
+pub twins : (w : List ℕ) → graphFits w ≡ true → (s t : ℕ) → s < getD w 0 0 → t < getD w 0 0
+    → Option·getD (acceptOf (graphFrom w) s) noLeaf ≡ Option·getD (acceptOf (graphFrom w) t) noLeaf
+    → Option·getD (earlyOf (graphFrom w) s) noLeaf ≡ Option·getD (earlyOf (graphFrom w) t) noLeaf
+    → ((c : ℕ) → c < stepCount → Option·getD (to (graphFrom w) s c) noState ≡ Option·getD (to (graphFrom w) t c) noState)
+    → stateOf (graphFrom w) s ≡ stateOf (graphFrom w) t
+unfolding to acceptOf earlyOf
+twins w taken s t hs ht a b f = λ i. record { steps = steps i; accept = accept i; early = early i }
+  where
+    accept : acceptOf (graphFrom w) s ≡ acceptOf (graphFrom w) t
+    accept = word-inj noLeaf _ _ (accept-leaf w taken s) (accept-leaf w taken t) a
+
+    early : earlyOf (graphFrom w) s ≡ earlyOf (graphFrom w) t
+    early = word-inj noLeaf _ _ (early-leaf w taken s) (early-leaf w taken t) b
+
+    no-edge : (k c : ℕ) → to (graphFrom w) k c ≡ some noState → ⊥
+    no-edge k c e = let h = from-edge w taken k c noState e .3 in let few = taken-few w taken in omega arith
+
+    steps : stateOf (graphFrom w) s .steps ≡ stateOf (graphFrom w) t .steps
+    steps =
+        let long = taken-long w taken in
+        let ws = from-width w long s hs in
+        ext-getD none (stateOf (graphFrom w) s .steps) (stateOf (graphFrom w) t .steps) (ws ∙ sym (from-width w long t ht))
+        (λ c h. word-inj noState _ _ (no-edge s c) (no-edge t c) (f c (omega arith)))

@@ -1,40 +1,33 @@
 // Rule 8: equal states become the lowest of them, in rounds until one merges nothing. A round compares each state with the earlier ones that stay, so a
-// graph of n states, d of them distinct, takes at most n d comparisons of two rows a round, most of which end at the first words.
+// graph of n states, d of them distinct, takes at most n d comparisons of two rows a round.
+use crate::equal::equal;
+use relabel::NO_NAME;
 use relabel::relabel;
-use words::views::word_of;
-use words::word;
+use words::STATES;
+use words::graph::states;
 ghost use mathlib.Core.Path.{_≡_};
 ghost use mathlib.Core.Bool.{true, false, not, cond};
-ghost use mathlib.Core.List.{_++_};
-ghost use Prim.Native.Nat.{ℕ, _+_, _*_, _<_};
-ghost use lib.ListN.{getD, drop};
+ghost use Prim.Native.Nat.{ℕ, _<_};
+ghost use lib.ListN.{getD};
 ghost use Rattle.graph_rules.specs.Graph.{graphFits, graphFrom, rewritten, stateOf};
 ghost use Rattle.graph_rules.specs.Build.{mergeRound, mergesNone, merged};
 ghost use Rattle.merge.specs.Equals.{Lowest};
 
-// The lowest state whose marks, 256 targets and end target are those of state s. `stay` tells which states before s equal none before them.
-fn first_equal(graph: &[u16], stay: &[bool; 1024], s: usize) -> usize
+mod equal;
+
+// The lowest state that equals state s. `stay` tells which states before s equal none before them.
+fn first_equal(graph: &[u16], stay: &[bool; STATES], s: usize) -> usize
     requires { ⌜ graphFits (now graph) ≡ true ⌝ }
     requires { ⌜ s < getD (now graph) 0 0 ⌝ }
     requires { ⌜ ((e : ℕ) → e < s → getD (now stay) e false ≡ false → (f : ℕ) × (f < e) × (stateOf (graphFrom (now graph)) f ≡ stateOf (graphFrom (now graph)) e)) ⌝ }
     ensures { λ r. ⌜ Lowest (graphFrom (now (graph .entry))) s r ⌝ }
 {
-    let marks = word_of(graph, s, 257);
     let mut e: usize = 0;
-    'states: while e < s {
-        if !stay[e] || word_of(graph, e, 257) != marks {
-            e += 1;
-            continue;
+    while e < s {
+        if stay[e] && equal(graph, e, s) {
+            return e;
         }
-        let mut c: usize = 0;
-        while c < 257 {
-            if word_of(graph, e, c) != word_of(graph, s, c) {
-                e += 1;
-                continue 'states;
-            }
-            c += 1;
-        }
-        return e;
+        e += 1;
     }
     s
 }
@@ -46,9 +39,9 @@ fn merge_round(graph: &mut [u16]) -> bool
     ensures { λ r. ⌜ now (graph .exit) ≡ cond (mergesNone (graphFrom (now (graph .entry)))) (now (graph .entry)) (rewritten mergeRound (now (graph .entry))) ⌝ }
     ensures { λ r. ⌜ graphFits (now (graph .exit)) ≡ true ⌝ }
 {
-    let n = word(graph, 0);
-    let mut names = [65535u16; 1024];
-    let mut stay = [false; 1024];
+    let n = states(graph);
+    let mut names = [NO_NAME; STATES];
+    let mut stay = [false; STATES];
     let mut k: usize = 0;
     let mut next: usize = 0;
     while next < n {

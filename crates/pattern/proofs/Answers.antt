@@ -1,15 +1,15 @@
 -- The answers of the two calls, from what the check and the walk over the tree find. Assumes nothing.
-use mathlib.Core.Path.{_≡_, refl, sym, ap, _∙_}
-use mathlib.Core.Bool.{Bool, true, false, cond}
+use mathlib.Core.Path.{_≡_, sym, ap, _∙_}
+use mathlib.Core.Bool.{Bool, true, false}
 use mathlib.Core.List.{List}
-use Prim.Native.Nat.{ℕ, _<_, _≤_}
+use Prim.Native.Nat.{ℕ, _<_}
 use native.Mathlib.Omega.{arith}
 use Rattle.lists.specs.Lists.{tab}
 use Rattle.lists.proofs.Bools.{Is, is, yes-is, no-is}
 use Rattle.utf8.specs.Utf8.{widthOf}
-use Rattle.trees.specs.Tree.{Tree, count, treeAt, root, treeFits}
+use Rattle.trees.specs.Tree.{count, treeAt, root, treeFits}
 use Rattle.pattern.specs.Priority.{priority, greedyAll, tooHigh, priorityOf, greedyOf}
-use Rattle.pattern.specs.Priced.{passes, answer, priced}
+use Rattle.pattern.specs.Priced.{answer, priced}
 use Rattle.trees.specs.Held.{Within}
 use Rattle.pattern.specs.declared.values.Priced.{Priced}
 use Rattle.pattern.specs.declared.values.Priced.the-variants as priced-as

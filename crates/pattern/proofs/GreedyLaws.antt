@@ -8,7 +8,7 @@ use lib.Dec.{eqb}
 use lib.ListN.{length, getD, set, replicate, List·getD-eq-default, length-set, length-replicate, getD-replicate}
 use lib.Seq.{getD-set-same, getD-set-other}
 use Rattle.lists.proofs.Bools.{or-false, Order, order, less, equal, more}
-use Rattle.trees.specs.Tree.{Tree, Chain, empty, done, part, firstOf, flag, count, recordOf, shapes, treeOf, chainAt, treeAt, root, treeFits}
+use Rattle.trees.specs.Tree.{Chain, empty, firstOf, flag, count, recordOf, shapes, treeOf, chainAt, treeAt, root, treeFits}
 use Rattle.pattern.specs.Priority.{isDot, greedyAll, someGreedy}
 use Rattle.pattern.specs.Greedy.{dotOf, parts, greedyPart}
 use Rattle.trees.specs.declared.tree.Record.{Record}

@@ -11,7 +11,7 @@ use trees::tree::record_at;
 use utf8::Points;
 use utf8::code_points;
 ghost use mathlib.Core.Path.{_≡_};
-ghost use Prim.Native.Nat.{ℕ, _+_, _<_, _≤_};
+ghost use Prim.Native.Nat.{_+_, _<_, _≤_};
 ghost use lib.ListN.{length, take, drop};
 ghost use Rattle.lists.specs.Lists.{tab};
 ghost use Rattle.utf8.specs.Utf8.{widthOf, codePoints};
@@ -35,7 +35,7 @@ fn literal_value(bytes: &[u8], widths: &[u8; 256], a: u32, b: u32) -> Priced
 }
 
 // The value of record i.
-pub fn record_value(tree: &[u32], bytes: &[u8], widths: &[u8; 256], i: usize) -> Priced
+pub(crate) fn record_value(tree: &[u32], bytes: &[u8], widths: &[u8; 256], i: usize) -> Priced
     requires { ⌜ Within (now tree) (now bytes) (now widths) i ⌝ }
     requires { ⌜ 0 < i ⌝ }
     ensures { λ r. ⌜ r ≡ priced (treeAt (now (tree .entry)) (now (bytes .entry)) i) ⌝ }

@@ -14,7 +14,7 @@ fn is_set(f: u32, flags: u32) -> bool
 }
 
 // A class that is one of the six of `DOT_HIRS`.
-pub fn is_dot(r: Record) -> bool
+pub(crate) fn is_dot(r: Record) -> bool
     ensures { λ b. ⌜ b ≡ dotOf r ⌝ }
 {
     let one = is_set(1, r.flags);
@@ -22,7 +22,7 @@ pub fn is_dot(r: Record) -> bool
 }
 
 // A greedy unbounded repetition of a dot, or a record that is looked into and has one inside.
-pub fn greedy_part(r: Record, dot: bool, inside: bool) -> bool
+pub(crate) fn greedy_part(r: Record, dot: bool, inside: bool) -> bool
     ensures { λ b. ⌜ b ≡ greedyPart r dot inside ⌝ }
 {
     let kind = r.kind;

@@ -2,13 +2,13 @@
 ghost use mathlib.Core.Path.{_≡_};
 ghost use Rattle.pattern.specs.Priced.{capped, times, plus, lesser};
 
-pub enum Priced {
+pub(crate) enum Priced {
     Value(u32),
     Over,
 }
 
 // A value, or over.
-pub fn cap(v: u64) -> Priced
+pub(crate) fn cap(v: u64) -> Priced
     ensures { λ r. ⌜ r ≡ capped v ⌝ }
 {
     if 4294967295 < v {
@@ -18,7 +18,7 @@ pub fn cap(v: u64) -> Priced
 }
 
 // Of a repetition. What is over below it stays so, whatever its min.
-pub fn multiplied(min: u32, inner: Priced) -> Priced
+pub(crate) fn multiplied(min: u32, inner: Priced) -> Priced
     ensures { λ r. ⌜ r ≡ times min inner ⌝ }
 {
     match inner {
@@ -28,7 +28,7 @@ pub fn multiplied(min: u32, inner: Priced) -> Priced
 }
 
 // Of the parts of a concat.
-pub fn added(p: Priced, q: Priced) -> Priced
+pub(crate) fn added(p: Priced, q: Priced) -> Priced
     ensures { λ r. ⌜ r ≡ plus p q ⌝ }
 {
     match p {
@@ -41,7 +41,7 @@ pub fn added(p: Priced, q: Priced) -> Priced
 }
 
 // Of the parts of an alternation. What is over is told, also where it is not the least.
-pub fn least_of(p: Priced, q: Priced) -> Priced
+pub(crate) fn least_of(p: Priced, q: Priced) -> Priced
     ensures { λ r. ⌜ r ≡ lesser p q ⌝ }
 {
     match p {

@@ -2,18 +2,21 @@
 use mathlib.Core.Path.{_≡_, refl, sym, ap, subst, _∙_}
 use mathlib.Core.Bool.{Bool, true, false}
 use mathlib.Core.List.{List, [], _∷_, _++_}
+use mathlib.Core.Logic.{_⊎_, inl, inr}
 use Prim.Native.Nat.{ℕ, _+_, _≤_, _<_}
 use native.Mathlib.Omega.{arith}
-use borrow.Author.Tests.{ltb-true, lt-ltb}
+use borrow.Author.Tests.{ltb-true, ltb-false, lt-ltb}
 use lib.Dec.{eqb, ltb}
-use lib.ListN.{length, getD, length-append}
+use lib.ListN.{length, getD, length-append, List·getD-eq-default}
 use Rattle.lists.specs.Lists.{below, anyL, allL, those}
-use Rattle.lists.proofs.Elements.{length-tab, getD-tab0, all-at, all-intro, eqb-sound}
+use Rattle.lists.proofs.Bools.{lt-or-le}
+use Rattle.lists.proofs.Elements.{length-tab, getD-tab0, all-at, all-intro}
 use Rattle.lists.proofs.Those.{those-keep, those-more, those-same}
 use Rattle.graph_rules.specs.Graph.{State, Graph, stateOf, graphFrom}
 use Rattle.graph_rules.proofs.Flat.{from-length}
 use Rattle.edges.specs.Edges.{leadsTo, targets}
 use Rattle.edges.proofs.ByTarget.{target-leads}
+use Rattle.plan_rules.specs.Plan.{base, byTable}
 use Rattle.plan_rows.specs.declared.fork.Fork.{Fork}
 use Rattle.plan_rows.specs.Fork.{forkIn, forkOf}
 
@@ -76,9 +79,9 @@ module _ {p : ℕ → Bool} {count low high u : ℕ} (f : Forking p count low hi
 -- ---- the targets of a state
 
 -- each is a state
-pub target-below : (n : ℕ) (st : State) (i : ℕ) → i < length (targets n st) → getD (targets n st) i 0 < n
+edge-below : (n : ℕ) (st : State) (i : ℕ) → i < length (targets n st) → getD (targets n st) i 0 < n
 unfolding targets
-target-below n st i h =
+edge-below n st i h =
     ltb-true _ n (all-at (λ x. ltb x n) (targets n st) i 0 (those-keep (leadsTo st) (λ x. ltb x n) (below n) small) h)
   where
     small : allL (λ x. ltb x n) (below n) ≡ true
@@ -86,11 +89,19 @@ target-below n st i h =
         all-intro (λ x. ltb x n) (below n) 0
         (λ j k. let b : j < n = omega (arith, length-tab 0 n (λ x. x)) in ap (λ (x : ℕ). ltb x n) (getD-tab0 n (λ x. x) j 0 b) ∙ lt-ltb j n b)
 
+-- and so is 0, which stands where there is no such edge
+pub target-below : (n : ℕ) (st : State) (j : ℕ) → 0 < n → getD (targets n st) j 0 < n
+target-below n st j h = go (lt-or-le j (length (targets n st)))
+  where
+    go : (j < length (targets n st)) ⊎ (length (targets n st) ≤ j) → getD (targets n st) j 0 < n
+    go (inl l) = edge-below n st j l
+    go (inr l) = rw (List·getD-eq-default (targets n st) 0 l) h
+
 -- all of them met
 pub forked : (w : List ℕ) (s u : ℕ) {own : Bool} {count low high : ℕ}
     → Forking (leadsTo (stateOf (graphFrom w) s)) count low high u → u ≡ getD w 0 0 → s < getD w 0 0 → own ≡ leadsTo (stateOf (graphFrom w) s) s
-    → record { count = count; own = own; low = low; high = high } ≡ forkOf (graphFrom w) s
-unfolding forkOf forkIn targets
+    → record { count = count; table = ltb 2 count; own = own; low = low; high = high } ≡ forkOf (graphFrom w) s
+unfolding forkOf forkIn targets byTable
 forked w s u f e h o =
     let t = f .two in
     let st = stateOf (graphFrom w) s in
@@ -100,7 +111,7 @@ forked w s u f e h o =
     let b = o ∙ sym (target-leads st (length (graphFrom w .states)) s k) in
     let c = t .low-is ∙ ap (λ (m : ℕ). getD (those (leadsTo st) (below m)) 0 0) n in
     let d = t .high-is ∙ ap (λ (m : ℕ). getD (those (leadsTo st) (below m)) 1 0) n in
-    λ i. record { count = a i; own = b i; low = c i; high = d i }
+    λ i. record { count = a i; table = ltb 2 (a i); own = b i; low = c i; high = d i }
 
 -- ---- what the fork of a state says
 
@@ -111,6 +122,14 @@ module _ (g : Graph) (s : ℕ) {f : Fork} (is-fork : f ≡ forkOf g s) where
   pub fork-count : f .count ≡ length ts
   unfolding forkOf forkIn
   fork-count = ap (λ (x : Fork). x .count) is-fork
+
+  pub fork-table : f .table ≡ byTable base ts
+  unfolding forkOf forkIn
+  fork-table = ap (λ (x : Fork). x .table) is-fork
+
+  pub few-edges : f .table ≡ false → f .count ≤ 2
+  unfolding byTable
+  few-edges e = omega (arith, fork-count, ltb-false 2 (length ts) (sym fork-table ∙ e))
 
   pub fork-own : f .own ≡ anyL (eqb s) ts
   unfolding forkOf forkIn
@@ -124,9 +143,9 @@ module _ (g : Graph) (s : ℕ) {f : Fork} (is-fork : f ≡ forkOf g s) where
   unfolding forkOf forkIn
   fork-high = ap (λ (x : Fork). x .high) is-fork
 
-  -- edges that are there lead to states
-  pub low-below : (f .count ≡ 0 → ⊥) → f .low < length (g .states)
-  low-below h = omega (arith, fork-low, target-below (length (g .states)) (stateOf g s) 0 (omega (arith, h, fork-count)))
+  -- they lead to states
+  pub low-below : 0 < length (g .states) → f .low < length (g .states)
+  low-below h = omega (arith, fork-low, target-below (length (g .states)) (stateOf g s) 0 h)
 
-  pub high-below : 1 < f .count → f .high < length (g .states)
-  high-below h = omega (arith, fork-high, target-below (length (g .states)) (stateOf g s) 1 (omega (arith, fork-count)))
+  pub high-below : 0 < length (g .states) → f .high < length (g .states)
+  high-below h = omega (arith, fork-high, target-below (length (g .states)) (stateOf g s) 1 h)

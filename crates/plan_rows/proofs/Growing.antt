@@ -25,15 +25,15 @@ use Rattle.plan_rows.specs.Needs.{grownBy}
 abbrev pub tookAll : MaskStore → Grown
 tookAll store = record { taken = true; store = store }
 
-abbrev pub asFound : MaskStore → Grown
-asFound store = record { taken = false; store = store }
+abbrev pub unchanged : MaskStore → Grown
+unchanged store = record { taken = false; store = store }
 
 module _ (store : MaskStore) (cs : List Class) where
   pub by-taken : takes store cs ≡ true → grownBy store cs ≡ tookAll (grown store cs)
   unfolding grownBy
   by-taken t = rw t
 
-  by-refused : takes store cs ≡ false → grownBy store cs ≡ asFound store
+  by-refused : takes store cs ≡ false → grownBy store cs ≡ unchanged store
   unfolding grownBy
   by-refused t = rw t
 
@@ -64,15 +64,15 @@ pub by-none : (store : MaskStore) → allowed store ≡ true → tookAll store �
 by-none store a = (λ i. record { taken = true; store = sym (grown-nothing store) i }) ∙ sym (by-taken store [] (takes-none store a))
 
 -- a store that is not allowed
-pub by-not : (store : MaskStore) (cs : List Class) → allowed store ≡ false → asFound store ≡ grownBy store cs
+pub by-not : (store : MaskStore) (cs : List Class) → allowed store ≡ false → unchanged store ≡ grownBy store cs
 unfolding takes
 by-not store cs a = sym (by-refused store cs (rw a))
 
 -- what is refused is refused with more
-stops : (store : MaskStore) (a b : List Class) → takes store a ≡ false → asFound store ≡ grownBy store (a ++ b)
+stops : (store : MaskStore) (a b : List Class) → takes store a ≡ false → unchanged store ≡ grownBy store (a ++ b)
 stops store a b t = go (is (takes store (a ++ b)))
   where
-    go : Is (takes store (a ++ b)) → asFound store ≡ grownBy store (a ++ b)
+    go : Is (takes store (a ++ b)) → unchanged store ≡ grownBy store (a ++ b)
     go (yes-is q) = absurd (false≢true (sym t ∙ takes-front store a b q))
     go (no-is q) = sym (by-refused store (a ++ b) q)
 
@@ -100,10 +100,10 @@ module _ (store : MaskStore) (c : Class) where
             (λ i. record { taken = true; store = q i }) ∙ sym (by-taken store (c ∷ []) t)
         go (no-is t) = let z : _≡_ {A = ℕ} 0 1 = cc (add-refused t) in absurd (omega arith)
 
-    pub by-refusal : {i : ℕ} → r .answer ≡ Refused i → asFound store ≡ grownBy store (c ∷ [])
+    pub by-refusal : {i : ℕ} → r .answer ≡ Refused i → unchanged store ≡ grownBy store (c ∷ [])
     by-refusal {i} n = go (is (takes store (c ∷ [])))
       where
-        go : Is (takes store (c ∷ [])) → asFound store ≡ grownBy store (c ∷ [])
+        go : Is (takes store (c ∷ [])) → unchanged store ≡ grownBy store (c ∷ [])
         go (yes-is t) = let z : _≡_ {A = ℕ} 0 1 = cc (add-taken t) in absurd (omega arith)
         go (no-is t) = sym (by-refused store (c ∷ []) t)
 
@@ -125,5 +125,5 @@ module _ (store : MaskStore) (a : List Class) (size : length (store .tables) ≡
         in
         q ∙ by-taken now b (was-taken now b q u) ∙ (λ i. record { taken = true; store = z i }) ∙ sym (by-taken store (a ++ b) (sym both ∙ u))
 
-    pub then-refused : r .taken ≡ false → (c : List Class) → asFound store ≡ grownBy store ((a ++ b) ++ c)
+    pub then-refused : r .taken ≡ false → (c : List Class) → unchanged store ≡ grownBy store ((a ++ b) ++ c)
     then-refused u c = stops store (a ++ b) c (sym both ∙ u)

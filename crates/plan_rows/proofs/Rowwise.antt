@@ -1,51 +1,50 @@
--- Rows of three words, one after another: a buffer that is filled row by row, and a list that is compared with them. Assumes nothing.
-use mathlib.Core.Path.{_≡_, sym, ap, subst, _∙_}
-use mathlib.Core.Bool.{Bool, true, false, false≢true}
+-- Rows of a plan, one after another: a buffer that is filled row by row, and a list that is compared with them. Assumes nothing.
+use mathlib.Core.Path.{_≡_, sym, ap, transport, _∙_}
+use mathlib.Core.Bool.{true, false, false≢true}
 use mathlib.Core.List.{List, [], _∷_, _++_, flatMap, append-assoc, append-nil}
 use Prim.Native.Nat.{ℕ, zero, suc, _+_, _*_, _-_, _≤_, _<_}
 use native.Mathlib.Numerals.{add-one}
 use native.Mathlib.Omega.{arith}
-use borrow.Author.Tests.{eq-eqb, ne-eqb}
 use lib.Dec.{eqb}
-use lib.ListN.{length, getD, take, drop, set, length-append}
-use lib.Seq.{sets, drop-cons, drop-at, take-at, take-add, take-take}
+use lib.ListN.{length, getD, take, drop, set, length-drop}
+use lib.Seq.{sets, drop-at, take-at, take-add, take-take, take-suc, length-take-le, ext-getD, getD-take, getD-drop}
 use Rattle.lists.specs.Lists.{below, eqList}
 use Rattle.lists.proofs.Bools.{Is, is, yes-is, no-is}
-use Rattle.lists.proofs.Buffers.{Filled, filled-run}
-use Rattle.lists.proofs.Elements.{eqb-sound, list-sound}
+use Rattle.lists.proofs.Buffers.{Filled, filled-run, sets-append}
+use Rattle.lists.proofs.Elements.{eqb-sound, list-sound, length-tab}
 use Rattle.lists.proofs.Members.{flatMap-one}
 use Rattle.lists.proofs.Those.{below-last}
+use Rattle.lists.proofs.Flattened.{length-flat}
+use Rattle.plan_rules.specs.Plan.{base, rowSize, ownPlace}
 
--- ---- one row of a list
+-- ---- one row
 
-pub three-at : (l : List ℕ) (i : ℕ) → i + 3 ≤ length l → take 3 (drop i l) ≡ getD l i 0 ∷ getD l (i + 1) 0 ∷ getD l (i + 2) 0 ∷ []
-three-at l i h =
-    let a : suc i ≡ i + 1 = omega arith in
-    let b : suc (i + 1) ≡ i + 2 = omega arith in
-    ap (take 3) (drop-cons l i 0 (omega arith))
-    ∙ ap (λ (k : ℕ). getD l i 0 ∷ take 2 (drop k l)) a
-    ∙ ap (λ (x : List ℕ). getD l i 0 ∷ take 2 x) (drop-cons l (i + 1) 0 (omega arith))
-    ∙ ap (λ (k : ℕ). getD l i 0 ∷ getD l (i + 1) 0 ∷ take 1 (drop k l)) b
-    ∙ ap (λ (x : List ℕ). getD l i 0 ∷ getD l (i + 1) 0 ∷ take 1 x) (drop-cons l (i + 2) 0 (omega arith))
+-- one more of its words is written
+pub run-more : (out : List ℕ) (at : ℕ) (row : List ℕ) (i : ℕ) → i < length row → set (sets out at (take i row)) (at + i) (getD row i 0) ≡ sets out at (take (i + 1) row)
+run-more out at row i h =
+    let size : length (take i row) ≡ i = length-take-le i row (omega arith) in
+    rw (add-one i, take-suc row i 0 h, sets-append out at (take i row) (getD row i 0 ∷ []), size)
 
 -- it is compared word by word
-module _ (l : List ℕ) (i : ℕ) (room : i + 3 ≤ length l) (x y z : ℕ) where
-  row-same : (b : Bool) → b ≡ eqList eqb (getD l i 0 ∷ getD l (i + 1) 0 ∷ getD l (i + 2) 0 ∷ []) (x ∷ y ∷ z ∷ []) → b ≡ eqList eqb (take 3 (drop i l)) (x ∷ y ∷ z ∷ [])
-  row-same b e = e ∙ ap (λ (r : List ℕ). eqList eqb r (x ∷ y ∷ z ∷ [])) (sym (three-at l i room))
+module _ (l row : List ℕ) (at : ℕ) (room : at + length row ≤ length l) where
+  abbrev part : List ℕ
+  part = take (length row) (drop at l)
 
-  pub row-first : (getD l i 0 ≡ x → ⊥) → false ≡ eqList eqb (take 3 (drop i l)) (x ∷ y ∷ z ∷ [])
-  row-first n = row-same false (rw (ne-eqb (getD l i 0) x n, eqList))
+  part-at : (j : ℕ) → j < length row → getD part j 0 ≡ getD l (at + j) 0
+  part-at j h = getD-take (length row) (drop at l) j 0 h ∙ getD-drop at l j 0
 
-  module _ (e : getD l i 0 ≡ x) where
-    pub row-second : (getD l (i + 1) 0 ≡ y → ⊥) → false ≡ eqList eqb (take 3 (drop i l)) (x ∷ y ∷ z ∷ [])
-    row-second n = row-same false (rw (eq-eqb (getD l i 0) x e, eqList) (rw (ne-eqb (getD l (i + 1) 0) y n, eqList)))
+  pub row-differs : (j : ℕ) → j < length row → (getD l (at + j) 0 ≡ getD row j 0 → ⊥) → eqList eqb part row ≡ false
+  row-differs j h n = go (is (eqList eqb part row))
+    where
+      go : Is (eqList eqb part row) → eqList eqb part row ≡ false
+      go (no-is q) = q
+      go (yes-is q) = absurd (n (sym (part-at j h) ∙ ap (λ (r : List ℕ). getD r j 0) (list-sound eqb eqb-sound .eq part row q)))
 
-    pub row-third : getD l (i + 1) 0 ≡ y → eqb (getD l (i + 2) 0) z ≡ eqList eqb (take 3 (drop i l)) (x ∷ y ∷ z ∷ [])
-    row-third f = row-same (eqb (getD l (i + 2) 0) z) (rw (eq-eqb (getD l i 0) x e, eqList) (rw (eq-eqb (getD l (i + 1) 0) y f, eqList) (go (is (eqb (getD l (i + 2) 0) z)))))
-      where
-        go : Is (eqb (getD l (i + 2) 0) z) → eqb (getD l (i + 2) 0) z ≡ eqList eqb (getD l (i + 2) 0 ∷ []) (z ∷ [])
-        go (yes-is q) = rw (q, eqList)
-        go (no-is q) = rw (q, eqList)
+  pub row-same : ((j : ℕ) → j < length row → getD l (at + j) 0 ≡ getD row j 0) → eqList eqb part row ≡ true
+  row-same f =
+      let size : length part ≡ length row = length-take-le (length row) (drop at l) (omega (arith, length-drop at l)) in
+      let same : part ≡ row = ext-getD 0 part row size (λ j h. part-at j (omega arith) ∙ f j (omega arith)) in
+      ap (eqList eqb part) (sym same) ∙ list-sound eqb eqb-sound .self part
 
 -- ---- rows that a function gives
 
@@ -65,33 +64,23 @@ module _ {A : Type 0} (f : ℕ → List A) where
       let n : s + suc k ≡ (s + k) + 1 = omega arith in
       (rest ++ f (s + k), ap rowsTo n ∙ rows-more (s + k) ∙ ap (λ (l : List A). l ++ f (s + k)) e ∙ append-assoc (rowsTo s) rest (f (s + k)))
 
-module _ (f : ℕ → List ℕ) (wide : (s : ℕ) → length (f s) ≡ 3) where
-  pub rows-length : (s : ℕ) → length (rowsTo f s) ≡ 3 * s
-  unfolding flatMap
-  rows-length zero = omega arith
-  rows-length (suc s) =
-      ap (λ (k : ℕ). length (rowsTo f k)) (sym (add-one s))
-      ∙ ap length (rows-more f s)
-      ∙ length-append (rowsTo f s) (f s)
-      ∙ omega (arith, rows-length s, wide s)
+module _ (f : ℕ → List ℕ) (wide : (s : ℕ) → length (f s) ≡ rowSize base) where
+  pub rows-length : (s : ℕ) → length (rowsTo f s) ≡ ownPlace base s
+  rows-length s = omega (arith, length-flat (rowSize base) f (below s) wide, length-tab 0 s (λ i. i))
 
   -- ---- a buffer that is filled with them
 
-  pub filled-row : {found out : List ℕ} (s : ℕ) (a b c : ℕ) → Filled found (rowsTo f s) out → a ∷ b ∷ c ∷ [] ≡ f s → 3 * s + 3 ≤ length found
-      → Filled found (rowsTo f (s + 1)) (set (set (set out (3 * s) a) (3 * s + 1) b) (3 * s + 2) c)
-  filled-row {found} {out} s a b c filled e h =
-      let run : Filled found (rowsTo f s ++ (a ∷ b ∷ c ∷ [])) (sets out (3 * s) (a ∷ b ∷ c ∷ [])) =
-      filled-run (3 * s) (a ∷ b ∷ c ∷ []) filled (rows-length s) (omega arith)
-      in
-      let p : suc (3 * s) ≡ 3 * s + 1 = omega arith in
-      let q : suc (suc (3 * s)) ≡ 3 * s + 2 = omega arith in
-      let text : rowsTo f s ++ (a ∷ b ∷ c ∷ []) ≡ rowsTo f (s + 1) = ap (λ (l : List ℕ). rowsTo f s ++ l) e ∙ sym (rows-more f s) in
-      subst (λ (l : List ℕ). Filled found l (set (set (set out (3 * s) a) (3 * s + 1) b) (3 * s + 2) c)) text
-      (subst (λ (l : List ℕ). Filled found (rowsTo f s ++ (a ∷ b ∷ c ∷ [])) l) (λ i. set (set (set out (3 * s) a) (p i) b) (q i) c) run)
+  pub filled-row : {found out after row : List ℕ} (s : ℕ) → Filled found (rowsTo f s) out → row ≡ f s → ownPlace base s + rowSize base ≤ length found → after ≡ sets out (ownPlace base s) row
+      → Filled found (rowsTo f (s + 1)) after
+  filled-row {found} {out} s filled e h is =
+      let run = filled-run (ownPlace base s) (f s) filled (rows-length s) (omega (arith, wide s)) in
+      let made = is ∙ ap (sets out (ownPlace base s)) e in
+      let text = rows-more f s in
+      transport (λ i. Filled found (sym text i) (sym made i)) run
 
-  pub filled-rows : {found out : List ℕ} (s n : ℕ) → Filled found (rowsTo f s) out → s ≡ n → out ≡ rowsTo f n ++ drop (n * 3) found
+  pub filled-rows : {found out : List ℕ} (s n : ℕ) → Filled found (rowsTo f s) out → s ≡ n → out ≡ rowsTo f n ++ drop (n * rowSize base) found
   filled-rows {found} {out} s n filled e =
-      let k : length (rowsTo f s) ≡ n * 3 = omega (arith, rows-length s) in
+      let k : length (rowsTo f s) ≡ n * rowSize base = omega (arith, rows-length s) in
       filled .holds ∙ (λ i. rowsTo f (e i) ++ drop (k i) found)
 
   -- ---- a list that is compared with them
@@ -99,54 +88,54 @@ module _ (f : ℕ → List ℕ) (wide : (s : ℕ) → length (f s) ≡ 3) where
   module _ (plan : List ℕ) where
     -- the rows below s are there
     abbrev pub Agrees : ℕ → Type 0
-    Agrees s = take (3 * s) plan ≡ rowsTo f s
+    Agrees s = take (ownPlace base s) plan ≡ rowsTo f s
 
-    pub agrees-more : (s : ℕ) → Agrees s → eqList eqb (take 3 (drop (3 * s) plan)) (f s) ≡ true → Agrees (s + 1)
+    pub agrees-more : (s : ℕ) → Agrees s → eqList eqb (take (rowSize base) (drop (ownPlace base s) plan)) (f s) ≡ true → Agrees (s + 1)
     agrees-more s a e =
-        let n : 3 * (s + 1) ≡ 3 * s + 3 = omega arith in
-        let row : take 3 (drop (3 * s) plan) ≡ f s = list-sound eqb eqb-sound .eq (take 3 (drop (3 * s) plan)) (f s) e in
+        let n : ownPlace base (s + 1) ≡ ownPlace base s + rowSize base = omega arith in
+        let row : take (rowSize base) (drop (ownPlace base s) plan) ≡ f s = list-sound eqb eqb-sound .eq (take (rowSize base) (drop (ownPlace base s) plan)) (f s) e in
         ap (λ (k : ℕ). take k plan) n
-        ∙ take-add (3 * s) 3 plan
+        ∙ take-add (ownPlace base s) (rowSize base) plan
         ∙ (λ i. a i ++ row i)
         ∙ sym (rows-more f s)
 
-    pub agrees-all : (s n : ℕ) → Agrees s → s ≡ n → eqList eqb (take (n * 3) plan) (rowsTo f n) ≡ true
+    pub agrees-all : (s n : ℕ) → Agrees s → s ≡ n → eqList eqb (take (n * rowSize base) plan) (rowsTo f n) ≡ true
     agrees-all s n a e =
-        let k : n * 3 ≡ 3 * s = omega arith in
-        let same : take (n * 3) plan ≡ rowsTo f n = ap (λ (m : ℕ). take m plan) k ∙ a ∙ ap (rowsTo f) e in
-        ap (eqList eqb (take (n * 3) plan)) (sym same) ∙ list-sound eqb eqb-sound .self (take (n * 3) plan)
+        let k : n * rowSize base ≡ ownPlace base s = omega arith in
+        let same : take (n * rowSize base) plan ≡ rowsTo f n = ap (λ (m : ℕ). take m plan) k ∙ a ∙ ap (rowsTo f) e in
+        ap (eqList eqb (take (n * rowSize base) plan)) (sym same) ∙ list-sound eqb eqb-sound .self (take (n * rowSize base) plan)
 
     -- where all are there, those below k are
-    front : (k n : ℕ) → k ≤ n → take (n * 3) plan ≡ rowsTo f n → Agrees k
+    front : (k n : ℕ) → k ≤ n → take (n * rowSize base) plan ≡ rowsTo f n → Agrees k
     front k n h all =
         let (rest, e) = rows-front f k (n - k) in
         let m : n ≡ k + (n - k) = omega arith in
-        sym (take-take (3 * k) (n * 3) plan (omega arith))
-        ∙ ap (take (3 * k)) (all ∙ ap (rowsTo f) m ∙ e)
-        ∙ take-at (rowsTo f k) rest (3 * k) (rows-length k)
+        sym (take-take (ownPlace base k) (n * rowSize base) plan (omega arith))
+        ∙ ap (take (ownPlace base k)) (all ∙ ap (rowsTo f) m ∙ e)
+        ∙ take-at (rowsTo f k) rest (ownPlace base k) (rows-length k)
 
     -- a row that differs is one of all
-    pub agrees-not : (s n : ℕ) → s < n → eqList eqb (take 3 (drop (3 * s) plan)) (f s) ≡ false → eqList eqb (take (n * 3) plan) (rowsTo f n) ≡ false
-    agrees-not s n h e = go (is (eqList eqb (take (n * 3) plan) (rowsTo f n)))
+    pub agrees-not : (s n : ℕ) → s < n → eqList eqb (take (rowSize base) (drop (ownPlace base s) plan)) (f s) ≡ false → eqList eqb (take (n * rowSize base) plan) (rowsTo f n) ≡ false
+    agrees-not s n h e = go (is (eqList eqb (take (n * rowSize base) plan) (rowsTo f n)))
       where
         row : List ℕ
-        row = take 3 (drop (3 * s) plan)
+        row = take (rowSize base) (drop (ownPlace base s) plan)
 
-        same : take (n * 3) plan ≡ rowsTo f n → row ≡ f s
+        same : take (n * rowSize base) plan ≡ rowsTo f n → row ≡ f s
         same all =
-            let k : 3 * s + 3 ≡ 3 * (s + 1) = omega arith in
+            let k : ownPlace base s + rowSize base ≡ ownPlace base (s + 1) = omega arith in
             let both : rowsTo f s ++ row ≡ rowsTo f s ++ f s =
             ap (λ (l : List ℕ). l ++ row) (sym (front s n (omega arith) all))
-            ∙ sym (take-add (3 * s) 3 plan)
+            ∙ sym (take-add (ownPlace base s) (rowSize base) plan)
             ∙ ap (λ (m : ℕ). take m plan) k
             ∙ front (s + 1) n (omega arith) all
             ∙ rows-more f s
             in
-            sym (drop-at (rowsTo f s) row (3 * s) (rows-length s)) ∙ ap (drop (3 * s)) both ∙ drop-at (rowsTo f s) (f s) (3 * s) (rows-length s)
+            sym (drop-at (rowsTo f s) row (ownPlace base s) (rows-length s)) ∙ ap (drop (ownPlace base s)) both ∙ drop-at (rowsTo f s) (f s) (ownPlace base s) (rows-length s)
 
-        go : Is (eqList eqb (take (n * 3) plan) (rowsTo f n)) → eqList eqb (take (n * 3) plan) (rowsTo f n) ≡ false
+        go : Is (eqList eqb (take (n * rowSize base) plan) (rowsTo f n)) → eqList eqb (take (n * rowSize base) plan) (rowsTo f n) ≡ false
         go (no-is q) = q
         go (yes-is q) =
-            let all : take (n * 3) plan ≡ rowsTo f n = list-sound eqb eqb-sound .eq (take (n * 3) plan) (rowsTo f n) q in
+            let all : take (n * rowSize base) plan ≡ rowsTo f n = list-sound eqb eqb-sound .eq (take (n * rowSize base) plan) (rowsTo f n) q in
             let self : eqList eqb row (f s) ≡ true = ap (λ (l : List ℕ). eqList eqb l (f s)) (same all) ∙ list-sound eqb eqb-sound .self (f s) in
             absurd (false≢true (sym e ∙ self))

@@ -2,81 +2,28 @@
 use mathlib.Core.Path.{_≡_, refl, sym, ap, _∙_}
 use mathlib.Core.Bool.{Bool, true, false, cond}
 use mathlib.Core.List.{List, [], _∷_, _++_, flatMap, append-nil, append-assoc}
-use Prim.Native.Nat.{ℕ, zero, suc, _+_, _-_, _≤_, _<_}
-use native.Mathlib.Numerals.{add-one}
+use Prim.Native.Nat.{ℕ, _+_, _-_, _≤_, _<_}
 use native.Mathlib.Omega.{arith}
-use borrow.Author.Tests.{lt-ltb, eq-eqb}
-use lib.Dec.{eqb}
 use lib.ListN.{length, getD}
-use Rattle.lists.specs.Lists.{anyL, allL}
-use Rattle.lists.proofs.Bools.{and-both, and-intro, Order, less, equal, more, order}
+use Rattle.lists.specs.Lists.{allL}
+use Rattle.lists.proofs.Bools.{Order, less, equal, more, order}
 use Rattle.graph_rules.specs.Graph.{State, Graph, stateOf, graphFrom, graphFits}
-use Rattle.graph_rules.proofs.Flat.{from-length, from-width}
-use Rattle.graph_rules.proofs.Taken.{taken-long}
+use Rattle.graph_rules.proofs.Flat.{from-length}
 use Rattle.classes.specs.Classes.{Class}
 use Rattle.edges.specs.Edges.{classTo, targets}
-use Rattle.edges.proofs.ByTarget.{class-whole}
 use Rattle.mask_store.specs.declared.MaskStore.{MaskStore}
 use Rattle.mask_store.specs.Masks.{grown, allowed, takes}
 use Rattle.mask_store.proofs.Growth.{whole}
 use Rattle.mask_store.proofs.Several.{takes-allowed}
-use Rattle.plan_rules.specs.Plan.{base, Way, bySelf, byTests, byMask, byTable, masked, wayTo, selfNeeds, edgeNeeds, stateNeeds, needs}
-use Rattle.plan_rules.proofs.Lists.{append-all}
+use Rattle.plan_rules.proofs.OwnStore.{whole-below}
+use Rattle.plan_rules.specs.Plan.{base, byTable, masked, wayTo, selfNeeds, edgeNeeds, stateNeeds, needs}
 use Rattle.plan_rows.specs.declared.needs.Grown.{Grown}
 use Rattle.plan_rows.specs.Needs.{grownBy}
 use Rattle.plan_rows.specs.declared.fork.Fork.{Fork}
 use Rattle.plan_rows.specs.Fork.{forkOf}
-use Rattle.plan_rows.proofs.Forks.{fork-count, fork-own, fork-low, fork-high}
+use Rattle.plan_rows.proofs.Forks.{fork-count, fork-table, fork-own, fork-low, fork-high}
 use Rattle.plan_rows.proofs.Rowwise.{rowsTo, rows-more, rows-front}
-use Rattle.plan_rows.proofs.Growing.{tookAll, asFound, was-taken, store-grown, by-taken, takes-none, grown-nothing, then-taken, then-refused}
-
--- ---- classes of 256 flags
-
-module _ (w : List ℕ) (fits : graphFits w ≡ true) (s : ℕ) (h : s < getD w 0 0) where
-  abbrev st : State
-  st = stateOf (graphFrom w) s
-
-  edge-whole : (u : ℕ) → whole (classTo st u) ≡ true
-  edge-whole u = eq-eqb _ 256 (class-whole st (let e = from-width w (taken-long w fits) s h in omega arith) u)
-
-  pub own-whole : (own : Bool) → allL whole (cond own (classTo st s ∷ []) []) ≡ true
-  own-whole true = and-intro _ _ (edge-whole s) refl
-  own-whole false = refl
-
-  pub way-whole : (way : Way) (u : ℕ) → allL whole (masked way (classTo st u)) ≡ true
-  way-whole bySelf u = refl
-  way-whole byTests u = refl
-  way-whole byMask u = and-intro _ _ (edge-whole u) refl
-
-  ways-whole : (ts : List ℕ) → allL whole (flatMap (λ u. masked (wayTo base st s u) (classTo st u)) ts) ≡ true
-  unfolding flatMap
-  ways-whole [] = refl
-  ways-whole (u ∷ ts) =
-      let f : ℕ → List Class = λ v. masked (wayTo base st s v) (classTo st v) in append-all whole (f u) (flatMap f ts) (way-whole (wayTo base st s u) u) (ways-whole ts)
-
-  edges-whole : (ts : List ℕ) → allL whole (edgeNeeds base st s ts) ≡ true
-  unfolding edgeNeeds
-  edges-whole ts = go (byTable base ts)
-    where
-      go : (b : Bool) → allL whole (cond b [] (flatMap (λ u. masked (wayTo base st s u) (classTo st u)) ts)) ≡ true
-      go true = refl
-      go false = ways-whole ts
-
-  state-whole : allL whole (stateNeeds base (graphFrom w) s) ≡ true
-  unfolding stateNeeds selfNeeds
-  state-whole =
-      let ts = targets (length (graphFrom w .states)) st in
-      append-all whole (selfNeeds st s ts) (edgeNeeds base st s ts) (own-whole (anyL (eqb s) ts)) (edges-whole ts)
-
--- the classes that the states below s need
-pub needs-whole : (w : List ℕ) → graphFits w ≡ true → (s : ℕ) → s ≤ getD w 0 0 → allL whole (rowsTo (stateNeeds base (graphFrom w)) s) ≡ true
-unfolding flatMap
-needs-whole w fits zero h = refl
-needs-whole w fits (suc s) h =
-    let f = stateNeeds base (graphFrom w) in
-    ap (λ (k : ℕ). allL whole (rowsTo f k)) (sym (add-one s))
-    ∙ ap (allL whole) (rows-more f s)
-    ∙ append-all whole (rowsTo f s) (f s) (needs-whole w fits s (omega arith)) (state-whole w fits s (omega arith))
+use Rattle.plan_rows.proofs.Growing.{tookAll, unchanged, was-taken, store-grown, by-taken, takes-none, grown-nothing, then-taken, then-refused}
 
 -- ---- the classes of one state, by how many edges it has
 
@@ -84,12 +31,9 @@ module _ (st : State) (s : ℕ) where
   abbrev edge : ℕ → List Class
   edge u = masked (wayTo base st s u) (classTo st u)
 
-  pub by-way : (store : MaskStore) (u : ℕ) {way : Way} → wayTo base st s u ≡ way → grownBy store (masked way (classTo st u)) ≡ grownBy store (edge u)
-  by-way store u e = ap (λ (way : Way). grownBy store (masked way (classTo st u))) (sym e)
-
-  edges-table : (ts : List ℕ) → 2 < length ts → edgeNeeds base st s ts ≡ []
-  unfolding edgeNeeds byTable
-  edges-table ts h = rw (lt-ltb 2 (length ts) h)
+  edges-table : (ts : List ℕ) → byTable base ts ≡ true → edgeNeeds base st s ts ≡ []
+  unfolding edgeNeeds
+  edges-table ts h = rw h
 
   edges-none : (ts : List ℕ) → length ts ≡ 0 → edgeNeeds base st s ts ≡ []
   unfolding edgeNeeds byTable flatMap
@@ -132,8 +76,8 @@ module _ (g : Graph) (s : ℕ) {f : Fork} (is-fork : f ≡ forkOf g s) where
   by-edges : (l : List Class) → edgeNeeds base from s ts ≡ l → own ++ l ≡ stateNeeds base g s
   by-edges l e = ap (λ (x : List Class). own ++ x) (sym e) ∙ state-own
 
-  pub state-table : 2 < f .count → own ≡ stateNeeds base g s
-  state-table h = sym (append-nil own) ∙ by-edges [] (edges-table from s ts (omega (arith, fork-count g s is-fork)))
+  pub state-table : f .table ≡ true → own ≡ stateNeeds base g s
+  state-table h = sym (append-nil own) ∙ by-edges [] (edges-table from s ts (sym (fork-table g s is-fork) ∙ h))
 
   pub state-none : f .count ≡ 0 → own ≡ stateNeeds base g s
   state-none e = sym (append-nil own) ∙ by-edges [] (edges-none from s ts (omega (arith, fork-count g s is-fork)))
@@ -175,7 +119,7 @@ module _ (w : List ℕ) (store : MaskStore) where
 
   module _ (fits : graphFits w ≡ true) (size : length (store .tables) ≡ 2048) {now : MaskStore} {s : ℕ} (go : Going now s) (h : s < getD w 0 0) where
     wide : allL whole (rowsTo f s) ≡ true
-    wide = needs-whole w fits s (omega arith)
+    wide = whole-below base w fits s (omega (arith, from-length w))
 
     pub going-allows : allowed now ≡ true
     going-allows = ap allowed (go .has) ∙ takes-allowed store (rowsTo f s) size wide (go .took)
@@ -188,7 +132,7 @@ module _ (w : List ℕ) (store : MaskStore) where
           in
           record { took = was-taken store (rowsTo f (s + 1)) q t; has = store-grown store (rowsTo f (s + 1)) q t }
 
-      pub going-refused : r .taken ≡ false → asFound store ≡ grownBy store (needs base (graphFrom w))
+      pub going-refused : r .taken ≡ false → unchanged store ≡ grownBy store (needs base (graphFrom w))
       unfolding needs
       going-refused t =
           let n = length (graphFrom w .states) in

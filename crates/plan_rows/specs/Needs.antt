@@ -1,4 +1,4 @@
--- A store grown by classes where 15 takes them, and as it was where not. Definitions only.
+-- A store grown by classes where 15 takes them, and unchanged where not. Definitions only.
 use mathlib.Core.Bool.{cond}
 use mathlib.Core.List.{List}
 use Rattle.classes.specs.Classes.{Class}

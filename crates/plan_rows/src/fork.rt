@@ -5,10 +5,13 @@ ghost use Prim.Native.Nat.{_<_};
 ghost use lib.ListN.{getD};
 ghost use Rattle.graph_rules.specs.Graph.{graphFits, graphFrom};
 ghost use Rattle.plan_rows.specs.Fork.{forkOf};
+use crate::way::EDGES;
 
-// How many states the byte edges lead to, whether one of them is the state itself, and the two lowest (0 where there is none).
+// How many states the byte edges lead to, whether these are so many that a table is used, whether one of them is the state itself, and the two
+// lowest (0 where there is none).
 pub struct Fork {
     pub count: usize,
+    pub table: bool,
     pub own: bool,
     pub low: usize,
     pub high: usize,
@@ -21,7 +24,7 @@ pub fn fork_at(graph: &[u16], s: usize) -> Fork
     ensures { λ r. ⌜ r ≡ forkOf (graphFrom (now (graph .entry))) s ⌝ }
 {
     let leads = edges::targets(graph, s);
-    let n = words::word(graph, 0);
+    let n = words::graph::states(graph);
     let mut count: usize = 0;
     let mut low: usize = 0;
     let mut high: usize = 0;
@@ -38,10 +41,10 @@ pub fn fork_at(graph: &[u16], s: usize) -> Fork
             }
         }
     }
-    let own = leads[s];
     Fork {
         count: count,
-        own: own,
+        table: EDGES < count,
+        own: leads[s],
         low: low,
         high: high,
     }

@@ -10,11 +10,13 @@ ghost use Rattle.mask_store.specs.Masks.{allowed};
 ghost use Rattle.plan_rules.specs.Plan.{base, wayTo, masked, stateNeeds, needs};
 ghost use Rattle.plan_rows.specs.Needs.{grownBy};
 use crate::fork::fork_at;
+use crate::way::way_to;
 use edges::class_to;
 use mask_store::AddAnswer;
 use mask_store::MaskStore;
+use plan_rules::Way;
 
-// Whether a store takes classes, and the store with them; as it was if not.
+// Whether a store takes classes, and the store with them; unchanged if not.
 pub struct Grown {
     pub taken: bool,
     pub store: MaskStore,
@@ -65,20 +67,15 @@ fn with_edge(graph: &[u16], s: usize, u: usize, store: MaskStore) -> Grown
     requires { ⌜ allowed store ≡ true ⌝ }
     ensures { λ r. ⌜ r ≡ grownBy store (masked (wayTo base (stateOf (graphFrom (now (graph .entry))) s) s u) (classTo (stateOf (graphFrom (now (graph .entry))) s) u)) ⌝ }
 {
-    if u == s {
-        return Grown {
-            taken: true,
-            store: store,
-        };
+    let unchanged = Grown {
+        taken: true,
+        store: store,
+    };
+    match way_to(graph, s, u) {
+        Way::BySelf => unchanged,
+        Way::ByTests => unchanged,
+        Way::ByMask => with_mask(store, class_to(graph, s, u)),
     }
-    let class = class_to(graph, s, u);
-    if classes::byte_class::cost(&class) <= 2 {
-        return Grown {
-            taken: true,
-            store: store,
-        };
-    }
-    with_mask(store, class)
 }
 
 // The store with the classes that state s needs: of the self edge first, then of the other edges, by target.
@@ -90,7 +87,7 @@ fn with_state(graph: &[u16], s: usize, store: MaskStore) -> Grown
 {
     let fork = fork_at(graph, s);
     let first = with_own(graph, s, fork.own, store);
-    if 2 < fork.count {
+    if fork.table {
         return first;
     }
     if fork.count == 0 {
@@ -134,7 +131,7 @@ pub fn grow(graph: &[u16], store: MaskStore) -> Grown
             store: store,
         };
     }
-    let n = words::word(graph, 0);
+    let n = words::graph::states(graph);
     let mut held = store;
     let mut s: usize = 0;
     while s < n {

@@ -13,15 +13,17 @@ use Rattle.lists.proofs.Elements.{all-intro, eqb-sound, list-sound}
 use Rattle.graph_rules.specs.Graph.{State, Graph, stateOf}
 use Rattle.classes.specs.Classes.{Class}
 use Rattle.mask_store.specs.declared.MaskStore.{MaskStore}
-use Rattle.mask_store.specs.Masks.{held, numberOf, among, noneTwice, met, heldWith, grown, allowed, takes}
+use Rattle.mask_store.specs.Masks.{held, numberOf, among, noneTwice, heldWith, grown, allowed, takes}
 use Rattle.lists.proofs.Bools.{Is, yes-is, no-is, is, and-both, and-intro, or-left, or-right}
-use Rattle.mask_store.proofs.Numbers.{number-own, number-stays, met-all, met-has}
+use Rattle.mask_store.proofs.Numbers.{number-own, met-all}
 use Rattle.mask_store.proofs.MaskLaws.{length-held, held-at}
 use Rattle.mask_store.proofs.Growth.{grown-none}
 use Rattle.edges.specs.Edges.{classTo, targets}
-use Rattle.plan_rules.specs.Plan.{Settings, Sane, Way, bySelf, byTests, byMask, byTable, wayTo, masked, selfNeeds, edgeNeeds, stateNeeds, needs, selfWord, wayWord, edgeWords, planRow, planWords, planOf, holdsPlan, planSize}
+use Rattle.plan_rules.specs.declared.Way.{Way}
+use Rattle.plan_rules.specs.declared.Way.the-variants.{BySelf, ByTests, ByMask}
+use Rattle.plan_rules.specs.Plan.{Settings, Sane, tableWord, byTable, wayTo, masked, selfNeeds, edgeNeeds, stateNeeds, needs, selfWord, wayWord, edgeWords, planRow, planWords, planOf, holdsPlan, planSize}
 use Rattle.plan_rules.specs.Run.{edgeHeld, rowHeld, rowsOf, isPlan}
-use Rattle.plan_rules.proofs.Lists.{all-append, append-all, all-replicate, all-weaker, flat-same, flat-all, flat-map}
+use Rattle.lists.proofs.Flattened.{all-append, append-all, all-replicate, flat-same, flat-all, flat-map}
 use Rattle.plan_rules.proofs.RunIsWalk.{length-planWords, rows-are}
 use Rattle.plan_rules.proofs.Holding.{HeldAs, holds-means}
 
@@ -39,14 +41,14 @@ module _ (set : Settings) (a b : List Class) (count : ℕ) where
   alike-below c h = ltb-true _ _ (and-both (eqb (numberOf a c) (numberOf b c)) _ (and-both (alike c) _ h .0) .1)
 
   way-same : (w : Way) (c : Class) → allL alike (masked w c) ≡ true → wayWord a w c ≡ wayWord b w c
-  way-same bySelf c h = refl
-  way-same byTests c h = refl
-  way-same byMask c h = ap (λ (n : ℕ). suc (suc n)) (alike-number c h)
+  way-same BySelf c h = refl
+  way-same ByTests c h = refl
+  way-same ByMask c h = ap (λ (n : ℕ). suc (suc n)) (alike-number c h)
 
   way-held : (w : Way) (c : Class) → allL alike (masked w c) ≡ true → edgeHeld count (wayWord a w c) ≡ true
-  way-held bySelf c h = or-left _ _ (lt-ltb 0 (2 + count) (omega arith))
-  way-held byTests c h = or-left _ _ (lt-ltb 1 (2 + count) (omega arith))
-  way-held byMask c h = or-left _ _ (lt-ltb _ (2 + count) (let l = alike-below c h in omega arith))
+  way-held BySelf c h = or-left _ _ (lt-ltb 0 (2 + count) (omega arith))
+  way-held ByTests c h = or-left _ _ (lt-ltb 1 (2 + count) (omega arith))
+  way-held ByMask c h = or-left _ _ (lt-ltb _ (2 + count) (let l = alike-below c h in omega arith))
 
   module _ (st : State) (s : ℕ) (ts : List ℕ) where
     self-same : allL alike (selfNeeds st s ts) ≡ true → selfWord a st s ts ≡ selfWord b st s ts
@@ -75,8 +77,8 @@ module _ (set : Settings) (a b : List Class) (count : ℕ) where
     unfolding edgeNeeds edgeWords
     edges-same h = go (is (byTable set ts))
       where
-        go : Is (byTable set ts) → cond (byTable set ts) (replicate (set .words) 65535) (map (wordIn a) ts ++ replicate (set .words - length ts) 0)
-            ≡ cond (byTable set ts) (replicate (set .words) 65535) (map (wordIn b) ts ++ replicate (set .words - length ts) 0)
+        go : Is (byTable set ts) → cond (byTable set ts) (replicate (set .words) tableWord) (map (wordIn a) ts ++ replicate (set .words - length ts) 0)
+            ≡ cond (byTable set ts) (replicate (set .words) tableWord) (map (wordIn b) ts ++ replicate (set .words - length ts) 0)
         go (yes-is q) = rw q
         go (no-is q) =
             let e : map (wordIn a) ts ≡ map (wordIn b) ts = flat-map alike maskedTo (wordIn a) (wordIn b) (λ u. way-same (wayTo set st s u) (classTo st u)) ts (rw q at h) in
@@ -86,8 +88,8 @@ module _ (set : Settings) (a b : List Class) (count : ℕ) where
     unfolding edgeNeeds edgeWords
     edges-held h = go (is (byTable set ts))
       where
-        go : Is (byTable set ts) → allL (edgeHeld count) (cond (byTable set ts) (replicate (set .words) 65535) (map (wordIn a) ts ++ replicate (set .words - length ts) 0)) ≡ true
-        go (yes-is q) = rw q (all-replicate (edgeHeld count) (set .words) 65535 (or-right (ltb 65535 (2 + count)) _ refl))
+        go : Is (byTable set ts) → allL (edgeHeld count) (cond (byTable set ts) (replicate (set .words) tableWord) (map (wordIn a) ts ++ replicate (set .words - length ts) 0)) ≡ true
+        go (yes-is q) = rw q (all-replicate (edgeHeld count) (set .words) tableWord (or-right (ltb tableWord (2 + count)) _ refl))
         go (no-is q) =
             rw q (append-all (edgeHeld count) (map (wordIn a) ts) (replicate (set .words - length ts) 0)
             (flat-all alike maskedTo (edgeHeld count) (wordIn a) (λ u. way-held (wayTo set st s u) (classTo st u)) ts (rw q at h))
@@ -114,19 +116,7 @@ module _ (set : Settings) (a b : List Class) (count : ℕ) where
         let q = all-append alike (selfNeeds st-of s ts-of) (edgeNeeds set st-of s ts-of) h in
         and-intro (leb (selfWord a st-of s ts-of) count) _ (le-leb _ _ (self-held st-of s ts-of (q .0))) (edges-held st-of s ts-of (q .1))
 
--- ---- a row may be written as soon as its own classes are met: what is met later changes none of its numbers
-
-pub row-now : (set : Settings) (g : Graph) (s : ℕ) (l later : List Class) → planRow set (met l (stateNeeds set g s)) g s ≡ planRow set (met (met l (stateNeeds set g s)) later) g s
-row-now set g s l later =
-    row-same set now (met now later) (length now) g s (all-weaker (among now) (alike set now (met now later) (length now)) one (stateNeeds set g s) (met-has l (stateNeeds set g s)))
-  where
-    now : List Class
-    now = met l (stateNeeds set g s)
-
-    one : (c : Class) → among now c ≡ true → alike set now (met now later) (length now) c ≡ true
-    one c h = and-intro _ _ (eq-eqb _ _ (sym (number-stays now later c h))) h
-
--- ---- G
+-- ---- a store that holds the plan's classes under its numbers
 
 module _ (set : Settings) (sane : Sane set) (g : Graph) (store other : MaskStore) (fine : allowed other ≡ true) (holds : holdsPlan set g store other ≡ true) where
   abbrev all : List Class

@@ -19,9 +19,11 @@ use Rattle.mask_store.specs.Masks.{held, numberOf, among, met, heldWith, takes}
 use Rattle.mask_store.proofs.Numbers.{number-most, met-split, met-front, met-all, met-has}
 use Rattle.mask_store.proofs.MaskLaws.{length-held}
 use Rattle.edges.specs.Edges.{classTo, targets}
-use Rattle.plan_rules.specs.Plan.{Settings, Sane, Way, bySelf, byTests, byMask, byTable, wayTo, masked, selfNeeds, edgeNeeds, stateNeeds, needs, selfWord, wayWord, edgeWords, planRow, planWords, planOf, planSize}
+use Rattle.plan_rules.specs.declared.Way.{Way}
+use Rattle.plan_rules.specs.declared.Way.the-variants.{BySelf, ByTests, ByMask}
+use Rattle.plan_rules.specs.Plan.{Settings, Sane, byTable, wayTo, masked, selfNeeds, edgeNeeds, stateNeeds, needs, selfWord, wayWord, edgeWords, planRow, planWords, planOf, planSize, tableWord}
 use Rattle.plan_rules.specs.Run.{edgeHeld, rowHeld, rowsOf, isPlan}
-use Rattle.plan_rules.proofs.Lists.{append-all, all-weaker, all-flat-tab, mapped-flat, flat-all}
+use Rattle.lists.proofs.Flattened.{append-all, all-weaker, all-flat-tab, mapped-flat, flat-all}
 use Rattle.plan_rules.proofs.RunIsWalk.{rows-are, takes-few, row-held}
 use Rattle.plan_rules.proofs.Again.{alike, row-below}
 
@@ -32,13 +34,13 @@ module _ (set : Settings) (all : List Class) (few : length all ≤ 64) (count : 
   numbered c = ltb (numberOf all c) count
 
   way-names : (w : Way) (c : Class) → edgeHeld count (wayWord all w c) ≡ true → allL numbered (masked w c) ≡ true
-  way-names bySelf c h = refl
-  way-names byTests c h = refl
-  way-names byMask c h = and-intro (numbered c) _ (lt-ltb (numberOf all c) count (go (or-cases _ _ h))) refl
+  way-names BySelf c h = refl
+  way-names ByTests c h = refl
+  way-names ByMask c h = and-intro (numbered c) _ (lt-ltb (numberOf all c) count (go (or-cases _ _ h))) refl
     where
-      go : (ltb (suc (suc (numberOf all c))) (2 + count) ≡ true) ⊎ (eqb (suc (suc (numberOf all c))) 65535 ≡ true) → numberOf all c < count
+      go : (ltb (suc (suc (numberOf all c))) (2 + count) ≡ true) ⊎ (eqb (suc (suc (numberOf all c))) tableWord ≡ true) → numberOf all c < count
       go (inl l) = let b : suc (suc (numberOf all c)) < 2 + count = ltb-true _ _ l in omega arith
-      go (inr e) = let b : suc (suc (numberOf all c)) ≡ 65535 = eqb-true _ _ e in absurd (omega (arith, number-most all c))
+      go (inr e) = let b : suc (suc (numberOf all c)) ≡ tableWord = eqb-true _ _ e in absurd (omega (arith, number-most all c))
 
   module _ (st : State) (s : ℕ) (ts : List ℕ) where
     self-names : selfWord all st s ts ≤ count → allL numbered (selfNeeds st s ts) ≡ true

@@ -21,14 +21,22 @@ use Rattle.mask_store.proofs.Numbers.{number-most}
 use Rattle.mask_store.proofs.MaskLaws.{mask-class, held-number}
 use Rattle.edges.specs.Edges.{bytesOf, classTo, targets}
 use Rattle.edges.proofs.ByTarget.{class-flag, byte-leads, target-leads}
-use Rattle.plan_rules.specs.Plan.{Settings, Sane, Way, bySelf, byTests, byMask, byTable, wayTo, selfWord, wayWord, edgeWords, planRow}
+use Rattle.plan_rules.specs.declared.Way.{Way}
+use Rattle.plan_rules.specs.declared.Way.the-variants.{BySelf, ByTests, ByMask}
+use Rattle.plan_rules.specs.Plan.{Settings, Sane, tableWord, byTable, wayTo, selfWord, wayWord, edgeWords, planRow}
 use Rattle.plan_rules.specs.Run.{selfOf, saysTable, selfTakes, edgeTakes, along, ledBy, edgeHeld, rowHeld}
-use Rattle.plan_rules.proofs.Lists.{option-ne, isMember, all-mapped}
+use Rattle.lists.proofs.Flattened.{option-ne, isMember, all-mapped}
 
 -- ---- the edges of a state
 
 pub target-member : (n : ℕ) (st : State) (b v : ℕ) → v < n → getD (bytesOf st) b none ≡ some v → isMember v (targets n st) ≡ true
 target-member n st b v h e = target-leads st n v h ∙ byte-leads st b v e
+
+-- an edge's word says no table
+pub no-table-word : (all : List Class) → length all ≤ 64 → (w : Way) (c : Class) → wayWord all w c < tableWord
+no-table-word all few BySelf c = omega arith
+no-table-word all few ByTests c = omega arith
+no-table-word all few ByMask c = let h : numberOf all c ≤ length all = number-most all c in omega arith
 
 -- ---- a mask that is named and held
 
@@ -47,12 +55,6 @@ module _ (store : MaskStore) (cs : List Class) where
     abbrev word : ℕ → ℕ
     word u = wayWord all (wayTo set st s u) (classTo st u)
 
-    -- an edge's word is small
-    word-small : (w : Way) (c : Class) → wayWord all w c < 65535
-    word-small bySelf c = omega arith
-    word-small byTests c = omega arith
-    word-small byMask c = let h : numberOf all c ≤ length all = number-most all c in omega arith
-
     module _ (b : ℕ) (byte : b < 256) where
       abbrev o : Option ℕ
       o = getD (bytesOf st) b none
@@ -68,11 +70,11 @@ module _ (store : MaskStore) (cs : List Class) where
           go (no-is q) (yes-is p) =
               rw (q, p) (named-has (classTo st u) b byte (below-count (or-cases _ _ (rw (q, p) at held))) ∙ class-flag st u b)
             where
-              below-count : (ltb (suc (suc (numberOf all (classTo st u)))) (2 + store .count) ≡ true) ⊎ (eqb (suc (suc (numberOf all (classTo st u)))) 65535 ≡ true)
+              below-count : (ltb (suc (suc (numberOf all (classTo st u)))) (2 + store .count) ≡ true) ⊎ (eqb (suc (suc (numberOf all (classTo st u)))) tableWord ≡ true)
                   → numberOf all (classTo st u) < store .count
               below-count (inl h) = let l : suc (suc (numberOf all (classTo st u))) < 2 + store .count = ltb-true _ _ h in omega arith
               below-count (inr h) =
-                  let e : suc (suc (numberOf all (classTo st u))) ≡ 65535 = eqb-true _ _ h in
+                  let e : suc (suc (numberOf all (classTo st u))) ≡ tableWord = eqb-true _ _ h in
                   let m : numberOf all (classTo st u) ≤ length all = number-most all (classTo st u) in
                   absurd (omega arith)
 
@@ -159,10 +161,10 @@ module _ (set : Settings) (sane : Sane set) (g : Graph) (store : MaskStore) (cs 
   abbrev ts-here : List ℕ
   ts-here = targets (length (g .states)) (stateOf g s)
 
-  first-small : (l : List ℕ) (m : ℕ) → getD (map words-here l ++ replicate m 0) 0 0 < 65535
+  first-small : (l : List ℕ) (m : ℕ) → getD (map words-here l ++ replicate m 0) 0 0 < tableWord
   first-small [] zero = omega arith
   first-small [] (suc m) = omega arith
-  first-small (u ∷ l) m = word-small store cs set (stateOf g s) (length (g .states)) s few (wayTo set (stateOf g s) s u) (classTo (stateOf g s) u)
+  first-small (u ∷ l) m = no-table-word (heldWith store cs) few (wayTo set (stateOf g s) s u) (classTo (stateOf g s) u)
 
   -- and any other byte is led on as the graph's row says
   pub row-led : rowHeld (store .count) row ≡ true → (to g s b ≡ some s → ⊥) → ledBy g row (store .tables) s b ≡ to g s b
@@ -177,13 +179,13 @@ module _ (set : Settings) (sane : Sane set) (g : Graph) (store : MaskStore) (cs 
 
       go : Is (byTable set ts-here) → allL (edgeHeld (store .count)) (drop 1 row) ≡ true → ledBy g row (store .tables) s b ≡ to g s b
       go (yes-is q) a =
-          let e : row ≡ first ∷ replicate (set .words) 65535 = rw q in
-          let t : saysTable (first ∷ replicate (set .words) 65535) ≡ true = eq-eqb _ 65535 (getD-replicate (set .words) 0 65535 0 (sane .some-word)) in
-          ap (λ (r : List ℕ). ledBy g r (store .tables) s b) e ∙ led-table (first ∷ replicate (set .words) 65535) t
+          let e : row ≡ first ∷ replicate (set .words) tableWord = rw q in
+          let t : saysTable (first ∷ replicate (set .words) tableWord) ≡ true = eq-eqb _ tableWord (getD-replicate (set .words) 0 tableWord 0 (sane .some-word)) in
+          ap (λ (r : List ℕ). ledBy g r (store .tables) s b) e ∙ led-table (first ∷ replicate (set .words) tableWord) t
       go (no-is q) a =
           let e : row ≡ first ∷ plain = rw q in
-          let small : getD plain 0 0 < 65535 = first-small ts-here (set .words - length ts-here) in
-          let t : saysTable (first ∷ plain) ≡ false = ne-eqb (getD plain 0 0) 65535 (λ x. omega arith) in
+          let small : getD plain 0 0 < tableWord = first-small ts-here (set .words - length ts-here) in
+          let t : saysTable (first ∷ plain) ≡ false = ne-eqb (getD plain 0 0) tableWord (λ x. omega arith) in
           let a′ : allL (edgeHeld (store .count)) plain ≡ true = rw q at a in
           ap (λ (r : List ℕ). ledBy g r (store .tables) s b) e
           ∙ led-edges (first ∷ plain) t

@@ -1,5 +1,3 @@
-pub mod Lists
-pub mod Legal
 pub mod Edges
 pub mod SelfRun
 pub mod RunIsWalk
@@ -7,3 +5,4 @@ pub mod Holding
 pub mod Again
 pub mod OwnStore
 pub mod Decided
+pub mod Needed

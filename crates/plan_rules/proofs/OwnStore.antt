@@ -7,7 +7,7 @@ use native.Mathlib.Omega.{arith}
 use borrow.Author.Tests.{eq-eqb, leb-true}
 use lib.Dec.{eqb}
 use lib.ListN.{length}
-use Rattle.lists.specs.Lists.{anyL, allL}
+use Rattle.lists.specs.Lists.{below, anyL, allL}
 use Rattle.lists.proofs.Bools.{and-both, and-intro}
 use Rattle.lists.proofs.Elements.{all-at}
 use Rattle.graph_rules.specs.Graph.{State, Graph, stateOf, graphFrom, graphFits}
@@ -17,29 +17,29 @@ use Rattle.mask_store.specs.Masks.{among, heldWith, grown, allowed, takes}
 use Rattle.mask_store.proofs.Growth.{whole, given-held, all-given, grown-allowed}
 use Rattle.edges.specs.Edges.{classTo, targets}
 use Rattle.edges.proofs.ByTarget.{class-whole}
-use Rattle.plan_rules.specs.Plan.{Settings, Way, bySelf, byTests, byMask, byTable, wayTo, masked, selfNeeds, edgeNeeds, stateNeeds, needs, holdsPlan}
-use Rattle.plan_rules.proofs.Lists.{append-all, all-flat, all-flat-tab}
-use Rattle.plan_rules.proofs.Legal.{legal-width}
+use Rattle.plan_rules.specs.declared.Way.{Way}
+use Rattle.plan_rules.specs.declared.Way.the-variants.{BySelf, ByTests, ByMask}
+use Rattle.plan_rules.specs.Plan.{Settings, byTable, wayTo, masked, selfNeeds, edgeNeeds, stateNeeds, needs, holdsPlan}
+use Rattle.lists.proofs.Flattened.{append-all, all-flat, all-flat-tab}
+use Rattle.graph_rules.specs.Layout.{stepCount}
+use Rattle.graph_rules.proofs.Flat.{from-length, from-width}
+use Rattle.graph_rules.proofs.Taken.{taken-long}
 use Rattle.plan_rules.proofs.Holding.{HeldAs, holds-shown}
 
--- ---- the classes that a state of 257 steps needs have 256 flags
+-- ---- the classes that a state needs have 256 flags, if it has all its steps
 
-module _ (set : Settings) (st : State) (width : length (st .steps) ≡ 257) where
+module _ (set : Settings) (st : State) (width : length (st .steps) ≡ stepCount) where
   one-whole : (u : ℕ) → allL whole (classTo st u ∷ []) ≡ true
   one-whole u = and-intro (whole (classTo st u)) _ (eq-eqb _ 256 (class-whole st (omega arith) u)) refl
 
-  masked-whole : (w : Way) (u : ℕ) → allL whole (masked w (classTo st u)) ≡ true
-  masked-whole bySelf u = refl
-  masked-whole byTests u = refl
-  masked-whole byMask u = one-whole u
+  pub masked-whole : (w : Way) (u : ℕ) → allL whole (masked w (classTo st u)) ≡ true
+  masked-whole BySelf u = refl
+  masked-whole ByTests u = refl
+  masked-whole ByMask u = one-whole u
 
-  self-whole : (s : ℕ) (ts : List ℕ) → allL whole (selfNeeds st s ts) ≡ true
-  unfolding selfNeeds
-  self-whole s ts = go (anyL (eqb s) ts)
-    where
-      go : (t : Bool) → allL whole (cond t (classTo st s ∷ []) []) ≡ true
-      go true = one-whole s
-      go false = refl
+  pub own-whole : (s : ℕ) (t : Bool) → allL whole (cond t (classTo st s ∷ []) []) ≡ true
+  own-whole s true = one-whole s
+  own-whole s false = refl
 
   edges-whole : (s : ℕ) (ts : List ℕ) → allL whole (edgeNeeds set st s ts) ≡ true
   unfolding edgeNeeds
@@ -56,15 +56,19 @@ module _ (set : Settings) (graph : List ℕ) (legal : graphFits graph ≡ true) 
   g = graphFrom graph
 
   state-whole : (s : ℕ) → s < length (g .states) → allL whole (stateNeeds set g s) ≡ true
-  unfolding stateNeeds
+  unfolding stateNeeds selfNeeds
   state-whole s h =
-      let w = legal-width graph legal s h in
-      append-all whole (selfNeeds (stateOf g s) s (targets (length (g .states)) (stateOf g s))) _
-      (self-whole set (stateOf g s) w s _) (edges-whole set (stateOf g s) w s _)
+      let w = from-width graph (taken-long graph legal) s (omega (arith, from-length graph)) in
+      let ts = targets (length (g .states)) (stateOf g s) in
+      append-all whole (selfNeeds (stateOf g s) s ts) _ (own-whole set (stateOf g s) w s (anyL (eqb s) ts)) (edges-whole set (stateOf g s) w s ts)
+
+  -- of the states below s
+  pub whole-below : (s : ℕ) → s ≤ length (g .states) → allL whole (flatMap (stateNeeds set g) (below s)) ≡ true
+  whole-below s h = all-flat-tab whole (stateNeeds set g) 0 s (λ u k. state-whole u (omega arith))
 
   pub needs-whole : allL whole (needs set g) ≡ true
   unfolding needs
-  needs-whole = all-flat-tab whole (stateNeeds set g) 0 (length (g .states)) (λ s h. state-whole s (omega arith))
+  needs-whole = whole-below (length (g .states)) (omega arith)
 
   module _ (store : MaskStore) (size : length (store .tables) ≡ 2048) (fine : takes store (needs set g) ≡ true) where
     few : length (heldWith store (needs set g)) ≤ 64

@@ -8,7 +8,7 @@ use mathlib.Core.Logic.{_⊎_, inl, inr}
 use Prim.Native.Nat.{ℕ, suc, _-_, _*_, _≤_, _<_}
 use native.Mathlib.Omega.{arith}
 use borrow.Author.Tests.{leb-true, ltb-false}
-use lib.Dec.{eqb, ltb}
+use lib.Dec.{eqb}
 use lib.ListN.{length, getD, take, drop, replicate, length-append, length-map, length-replicate, take-append-drop}
 use Rattle.lists.specs.Lists.{below, allL, eqOption, eqList, pieces}
 use Rattle.lists.proofs.Elements.{length-tab, getD-tab0, map-at, all-at, eqb-sound, option-sound, list-sound}
@@ -20,9 +20,9 @@ use Rattle.mask_store.specs.declared.MaskStore.{MaskStore}
 use Rattle.mask_store.specs.Masks.{heldWith, takes, allowed}
 use Rattle.lists.proofs.Bools.{Is, yes-is, no-is, is, and-both}
 use Rattle.edges.specs.Edges.{classTo, targets}
-use Rattle.plan_rules.specs.Plan.{Settings, Sane, base, byTable, wayTo, wayWord, edgeWords, planRow, planWords, planOf, planSize, needs}
+use Rattle.plan_rules.specs.Plan.{Settings, Sane, base, byTable, wayTo, wayWord, edgeWords, planRow, planWords, planOf, planSize, needs, tableWord}
 use Rattle.plan_rules.specs.Run.{selfOf, selfTakes, ledBy, along, runFrom, rowsOf, rowHeld, run, isPlan}
-use Rattle.plan_rules.proofs.Lists.{pieces-flat, length-flat}
+use Rattle.lists.proofs.Flattened.{pieces-flat, length-flat}
 use Rattle.plan_rules.proofs.SelfRun.{walk-again}
 use Rattle.plan_rules.proofs.Edges.{row-self, row-led}
 
@@ -45,8 +45,8 @@ module _ (set : Settings) (sane : Sane set) (all : List Class) (g : Graph) where
       word : ℕ → ℕ
       word u = wayWord all (wayTo set st s u) (classTo st u)
 
-      go : Is (byTable set ts) → length (cond (byTable set ts) (replicate (set .words) 65535) (map word ts ++ replicate (set .words - length ts) 0)) ≡ set .words
-      go (yes-is q) = rw q (length-replicate (set .words) 65535)
+      go : Is (byTable set ts) → length (cond (byTable set ts) (replicate (set .words) tableWord) (map word ts ++ replicate (set .words - length ts) 0)) ≡ set .words
+      go (yes-is q) = rw q (length-replicate (set .words) tableWord)
       go (no-is q) =
           let h : length ts ≤ set .words = edges-fit ts q in
           rw q (omega (arith, length-append (map word ts) (replicate (set .words - length ts) 0), length-map ts word, length-replicate {A = ℕ} (set .words - length ts) 0))

@@ -1,7 +1,7 @@
 -- The plan of a graph on a mask store (document 01, "Edges, costs, masks"). Definitions only.
 use mathlib.Core.Bool.{Bool, cond, _&&_}
 use mathlib.Core.List.{List, [], _∷_, _++_, map, flatMap}
-use Prim.Native.Nat.{ℕ, suc, _*_, _-_, _≤_}
+use Prim.Native.Nat.{ℕ, suc, _+_, _*_, _-_, _≤_}
 use lib.Dec.{eqb, ltb}
 use lib.ListN.{length, replicate}
 use Rattle.lists.specs.Lists.{below, anyL, allL}
@@ -10,6 +10,8 @@ use Rattle.classes.specs.Classes.{Class, cost}
 use Rattle.mask_store.specs.declared.MaskStore.{MaskStore}
 use Rattle.mask_store.specs.Masks.{classAt, sameClass, numberOf, heldWith}
 use Rattle.edges.specs.Edges.{classTo, targets}
+use Rattle.plan_rules.specs.declared.Way.{Way}
+use Rattle.plan_rules.specs.declared.Way.the-variants.{BySelf, ByTests, ByMask}
 
 -- "Above 2 byte edges, self included, a 256-entry table is used"; "a mask if its cost is above 2"; "three words a state": one and two for edges
 pub record Settings : Type 0 where
@@ -25,18 +27,13 @@ pub record Sane (set : Settings) : Type 0 where
   pub enough : set .edges ≤ set .words
   pub some-word : 1 ≤ set .words
 
--- ---- how a byte is tested for an edge
-
-pub data Way : Type 0 where
-  bySelf : Way  -- the self edge: it is run before, by its mask
-  byTests : Way  -- comparisons
-  byMask : Way
+-- ---- how a byte is tested for an edge: `Way`
 
 -- the classes that need a mask for it
 abbrev pub masked : Way → Class → List Class
-masked bySelf c = []
-masked byTests c = []
-masked byMask c = c ∷ []
+masked BySelf c = []
+masked ByTests c = []
+masked ByMask c = c ∷ []
 
 -- "self edge first, always a mask"; ts are the targets of the state's byte edges
 unfoldable pub selfNeeds : State → ℕ → List ℕ → List Class
@@ -46,11 +43,15 @@ selfNeeds st s ts = cond (anyL (eqb s) ts) (classTo st s ∷ []) []
 unfoldable pub selfWord : List Class → State → ℕ → List ℕ → ℕ
 selfWord all st s ts = cond (anyL (eqb s) ts) (suc (numberOf all (classTo st s))) 0
 
+-- the edge words of a table
+abbrev pub tableWord : ℕ
+tableWord = 65535
+
 -- "0 (absent or self), 1 (comparisons), 2 + mask number"
 abbrev pub wayWord : List Class → Way → Class → ℕ
-wayWord all bySelf c = 0
-wayWord all byTests c = 1
-wayWord all byMask c = suc (suc (numberOf all c))
+wayWord all BySelf c = 0
+wayWord all ByTests c = 1
+wayWord all ByMask c = suc (suc (numberOf all c))
 
 module _ (set : Settings) where
   -- ---- the choices
@@ -60,7 +61,7 @@ module _ (set : Settings) where
 
   -- the edge from s to u, where no table is used
   unfoldable pub wayTo : State → ℕ → ℕ → Way
-  wayTo st s u = cond (eqb u s) bySelf (cond (ltb (set .cost) (cost (classTo st u))) byMask byTests)
+  wayTo st s u = cond (eqb u s) BySelf (cond (ltb (set .cost) (cost (classTo st u))) ByMask ByTests)
 
   -- ---- the classes that a graph needs masks for
 
@@ -84,7 +85,7 @@ module _ (set : Settings) where
   unfoldable pub edgeWords : List Class → State → ℕ → List ℕ → List ℕ
   edgeWords all st s ts =
       cond (byTable ts)
-      (replicate (set .words) 65535)
+      (replicate (set .words) tableWord)
       (map (λ u. wayWord all (wayTo st s u) (classTo st u)) ts ++ replicate (set .words - length ts) 0)
 
   unfoldable pub planRow : List Class → Graph → ℕ → List ℕ
@@ -105,6 +106,19 @@ module _ (set : Settings) where
   holdsPlan g store other =
       allL (λ c. let i = numberOf (heldWith store (needs g)) c in ltb i (other .count) && sameClass (classAt (other .tables) i) c) (needs g)
 
+  -- ---- where they stand
+
+  -- the words of a state, and the place of the first, which is the self edge's
+  abbrev pub rowSize : ℕ
+  rowSize = suc (set .words)
+
+  abbrev pub ownPlace : ℕ → ℕ
+  ownPlace s = rowSize * s
+
+  -- of its edge j in target order
+  abbrev pub edgePlace : ℕ → ℕ → ℕ
+  edgePlace s j = ownPlace s + suc j
+
   -- the words that a plan needs
   abbrev pub planSize : Graph → ℕ
-  planSize g = length (g .states) * suc (set .words)
+  planSize g = length (g .states) * rowSize

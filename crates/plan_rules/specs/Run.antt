@@ -12,7 +12,7 @@ use Rattle.classes.specs.Classes.{comparisons, someHolds}
 use Rattle.mask_store.specs.declared.MaskStore.{MaskStore}
 use Rattle.mask_store.specs.Masks.{maskHas}
 use Rattle.edges.specs.Edges.{classTo, targets}
-use Rattle.plan_rules.specs.Plan.{Settings, planOf, planSize}
+use Rattle.plan_rules.specs.Plan.{Settings, tableWord, planOf, rowSize, planSize}
 
 -- ---- a state's plan words: the self word, then the edge words
 
@@ -20,7 +20,7 @@ abbrev pub selfOf : List ℕ → ℕ
 selfOf row = getD row 0 0
 
 abbrev pub saysTable : List ℕ → Bool
-saysTable row = eqb (getD row 1 0) 65535
+saysTable row = eqb (getD row 1 0) tableWord
 
 -- "In a state with a self mask, k grows while byte k is there and that mask has its bit"
 abbrev pub selfTakes : List ℕ → ℕ → ℕ → Bool
@@ -59,18 +59,18 @@ runFrom g rows tables s k r (b ∷ text) =
           onward q (λ u. runFrom g rows tables u (suc k) q text) (ledBy g row tables s b)
     ]
 
--- ---- every mask that a state's plan words name is below the store's count; 65,535 names none
+-- ---- every mask that a state's plan words name is below the store's count; a table's words name none
 
 abbrev pub edgeHeld : ℕ → ℕ → Bool
-edgeHeld count w = ltb w (2 + count) || eqb w 65535
+edgeHeld count w = ltb w (2 + count) || eqb w tableWord
 
 abbrev pub rowHeld : ℕ → List ℕ → Bool
 rowHeld count row = leb (selfOf row) count && allL (edgeHeld count) (drop 1 row)
 
 module _ (set : Settings) where
-  -- the plan words, a piece for each state
+  -- the plan words, a row for each state
   unfoldable pub rowsOf : Graph → List ℕ → List (List ℕ)
-  rowsOf g words = pieces (suc (set .words)) (length (g .states)) words
+  rowsOf g words = pieces (rowSize set) (length (g .states)) words
 
   -- "starts at the root, or reads none where the graph has no states": its root has no marks and no edges then
   unfoldable pub run : Graph → List ℕ → MaskStore → List ℕ → Reading

@@ -1,6 +1,6 @@
 -- What planning answers, once its refusals are decided. Assumes nothing.
 use mathlib.Core.Path.{_≡_, sym, ap, _∙_}
-use mathlib.Core.Bool.{Bool, true, false, cond}
+use mathlib.Core.Bool.{true, false}
 use mathlib.Core.List.{List, _++_}
 use Prim.Native.Nat.{ℕ, _+_, _-_, _*_, _≤_, _<_}
 use native.Mathlib.Omega.{arith}
@@ -17,8 +17,6 @@ use Rattle.mask_store.proofs.Growth.{grown-size, held-grown}
 use Rattle.plan_rules.specs.Plan.{base, needs, planWords, planOf, planSize}
 use Rattle.plan_rules.proofs.OwnStore.{needs-whole}
 use Rattle.plan_rules.proofs.RunIsWalk.{takes-few}
-use Rattle.plan_rows.specs.declared.needs.Grown.{Grown}
-use Rattle.plan_rows.specs.Needs.{grownBy}
 use Rattle.planning.specs.declared.plan.PlanAnswer.the-variants.{Planned}
 use Rattle.planning.specs.Plan.{PlanCall, noPlan, planCall}
 
@@ -26,17 +24,7 @@ use Rattle.planning.specs.Plan.{PlanCall, noPlan, planCall}
 pub size-is : (graph : List ℕ) (n : ℕ) → n ≡ getD graph 0 0 → planSize base (graphFrom graph) ≡ 3 * n
 size-is graph n e = let l = from-length graph in omega arith
 
--- ---- a store that was to grow, by the flag
-
-module _ (store : MaskStore) (cs : List Class) (r : Grown) (e : r ≡ grownBy store cs) where
-  pub grow-taken : (b : Bool) → r .taken ≡ b → takes store cs ≡ b
-  unfolding grownBy
-  grow-taken b q = sym (ap (λ (x : Grown). x .taken) e) ∙ q
-
-  pub grow-store : r .taken ≡ true → r .store ≡ grown store cs
-  unfolding grownBy
-  grow-store q = ap (λ (x : Grown). x .store) e ∙ ap (λ (b : Bool). cond b (grown store cs) store) (grow-taken true q)
-
+-- the classes of a store that has grown
 pub grown-count : (store : MaskStore) (cs : List Class) (after : MaskStore) → after ≡ grown store cs → after .count ≡ length (heldWith store cs)
 unfolding grown
 grown-count store cs after e = ap (λ (s : MaskStore). s .count) e

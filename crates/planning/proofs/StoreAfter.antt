@@ -1,5 +1,5 @@
 -- Every bit of the store after planning: masks that were held keep their bits, new ones are the classes that the graph needs, and every other bit is
--- as it was. Where planning is refused the count stays, so no bit changes. Assumes nothing.
+-- unchanged. Where planning is refused the count stays, so no bit changes. Assumes nothing.
 use mathlib.Core.Path.{_≡_}
 use mathlib.Core.Bool.{true, false, cond, _&&_}
 use mathlib.Core.List.{List, []}
@@ -27,9 +27,9 @@ none-between n i = go (is (leb n i))
     go (no-is q) = rw q
     go (yes-is q) = let l : n ≤ i = leb-true _ _ q in rw q (le-ltb i n l)
 
--- the store that planning leaves: grown where it is answered, as found where it is refused
+-- the store that planning leaves: grown where it is answered, unchanged where it is refused
 pub data Left (set : Settings) (graph : List ℕ) (store : MaskStore) : MaskStore → Type 0 where
-  as-found : Left set graph store store
+  unchanged : Left set graph store store
   has-grown : graphFits graph ≡ true → takes store (needs set (graphFrom graph)) ≡ true → Left set graph store (grown store (needs set (graphFrom graph)))
 
 pub left-by : (set : Settings) (graph buffer : List ℕ) (store : MaskStore) → Left set graph store (planCall set graph buffer store .planning .store)
@@ -39,9 +39,9 @@ left-by set graph buffer store =
   where
     go : Is (graphFits graph) → Is (ltb (length buffer) (planSize set (graphFrom graph))) → Is (takes store (needs set (graphFrom graph)))
         → Left set graph store (planCall set graph buffer store .planning .store)
-    go (no-is a) x y = rw (a, planCall) as-found
-    go (yes-is a) (yes-is x) y = rw (a, x, planCall) as-found
-    go (yes-is a) (no-is x) (no-is y) = rw (a, x, y, planCall) as-found
+    go (no-is a) x y = rw (a, planCall) unchanged
+    go (yes-is a) (yes-is x) y = rw (a, x, planCall) unchanged
+    go (yes-is a) (no-is x) (no-is y) = rw (a, x, y, planCall) unchanged
     go (yes-is a) (no-is x) (yes-is y) = rw (a, x, y, planCall) (has-grown a y)
 
 -- bit k of byte b of table t belongs to mask 8 t + k
@@ -50,7 +50,7 @@ module _ (set : Settings) (graph : List ℕ) (store : MaskStore) (size : length 
       → bit (getD (after .tables) (256 * t + b) 0) k
       ≡ cond (leb (store .count) (8 * t + k) && ltb (8 * t + k) (after .count)) (cond (has (getD (heldWith store (needs set (graphFrom graph))) (8 * t + k) []) b) 1 0)
       (bit (getD (store .tables) (256 * t + b) 0) k)
-  left-bits after as-found = rw (none-between (store .count) (8 * t + k))
+  left-bits after unchanged = rw (none-between (store .count) (8 * t + k))
   left-bits after (has-grown a y) =
       grown-bits store (needs set (graphFrom graph)) size (needs-whole set graph a) (takes-few set (graphFrom graph) store y) t b k byte one
 

@@ -16,26 +16,26 @@ pub struct Planning {
     pub store: MaskStore,
 }
 
-// A refusal, and the store as it was.
-fn refused(number: u8, as_found: MaskStore) -> Planning
-    ensures { λ r. ⌜ r ≡ refusedWith number as_found ⌝ }
+// A refusal, and the store unchanged.
+fn refused(number: u8, store: MaskStore) -> Planning
+    ensures { λ r. ⌜ r ≡ refusedWith number store ⌝ }
 {
     Planning {
         answer: PlanAnswer::Refused(number),
-        store: as_found,
+        store: store,
     }
 }
 
 // The plan of the graph, three words a state, in the front of the buffer, and the store with the masks that it needs; or 12, 14 or 15, and buffer
-// and store as they were.
+// and store unchanged.
 pub fn plan_by_value(graph: &[u16], out: &mut [u16], store: MaskStore) -> Planning
     ensures { λ r. ⌜ (r ≡ planCall base (now (graph .entry)) (now (out .entry)) store .planning) × (now (out .exit) ≡ planCall base (now (graph .entry)) (now (out .entry)) store .buffer) ⌝ }
 {
     if !words::graph::fits(graph) {
         return refused(12, store);
     }
-    let states = words::word(graph, 0);
-    if out.len() < 3 * states {
+    let states = words::graph::states(graph);
+    if out.len() < plan_rows::layout::ROW * states {
         return refused(14, store);
     }
     let grown = plan_rows::needs::grow(graph, store);

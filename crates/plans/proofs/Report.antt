@@ -21,7 +21,7 @@ use Rattle.plan_rules.specs.Run.{run, isPlan}
 use Rattle.planning.proofs.Report.{three-a-state}
 use Rattle.scans.specs.declared.scan.Scan.{Scan}
 use Rattle.scans.specs.Scan.{past, over}
-use Rattle.scans.specs.List.{listReport, listFor, noList, scanList}
+use Rattle.scans.specs.List.{entrySize, listReport, listFor, noList, scanList}
 use Rattle.scans.specs.Report.{scanRefusal}
 use Rattle.scans.proofs.Report.{listTells, scan-list-report}
 use Rattle.plans.specs.Run.{planRefusal, runRefusal, runCall, plannedRefusal, plannedList}
@@ -95,14 +95,14 @@ module _ (graph words : List ℕ) (store : MaskStore) where
 
     pub planned-report : (buffer : List ℕ)
         → listReport (plannedList base graph words store text scan buffer .listed .answer)
-        ≡ answering (plannedNumber graph words store text scan) (length (listFor (graphFrom graph) text (length buffer / 3) scan .entries) ∷ [])
+        ≡ answering (plannedNumber graph words store text scan) (length (listFor (graphFrom graph) text (length buffer / entrySize) scan .entries) ∷ [])
     unfolding plannedList
     planned-report buffer =
         go (plannedRefusal base graph words store text scan) (scan-list-report graph text scan buffer)
         ∙ ap (λ (n : ℕ). answering n (count ∷ [])) planned-number
       where
         count : ℕ
-        count = length (listFor g text (length buffer / 3) scan .entries)
+        count = length (listFor g text (length buffer / entrySize) scan .entries)
 
         go : (n : ℕ) → listTells (scanList graph text scan buffer) ≡ answering (scanRefusal graph text scan) (count ∷ [])
             → listTells (elim (eqb n 0) [ true ↦ scanList graph text scan buffer | false ↦ noList n scan buffer ])

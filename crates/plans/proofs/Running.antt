@@ -2,8 +2,8 @@
 use mathlib.Core.Path.{_≡_, sym, ap, _∙_}
 use mathlib.Core.Bool.{Bool, true, false, _&&_}
 use mathlib.Core.List.{List}
-use mathlib.Core.Option.{none}
-use mathlib.Core.Logic.{⊎-elim}
+use mathlib.Core.Option.{none, some}
+use mathlib.Core.Logic.{_⊎_, inl, inr, ⊎-elim}
 use Prim.Native.Nat.{ℕ, _+_, _≤_, _<_}
 use native.Mathlib.Omega.{arith}
 use borrow.Author.Tests.{lt-ltb, le-ltb, le-leb, ltb-true, ltb-false, leb-true, eq-eqb, ne-eqb}
@@ -12,15 +12,17 @@ use lib.ListN.{length, take, drop}
 use Rattle.lists.specs.Lists.{eqList}
 use Rattle.lists.proofs.Bools.{Is, is, yes-is, no-is, and-both, and-intro, and-right-false, or-cases, or-left, or-right}
 use Rattle.lists.proofs.Elements.{eqb-sound, list-sound}
-use Rattle.graph_rules.specs.Graph.{Graph, graphFrom, graphFits}
+use Rattle.graph_rules.specs.Graph.{Graph, to, graphFrom, graphFits}
 use Rattle.graph_rules.specs.Read.{Reading}
 use Rattle.classes.specs.Classes.{Class}
 use Rattle.mask_store.specs.declared.MaskStore.{MaskStore}
 use Rattle.mask_store.specs.Masks.{held, heldWith, grown, allowed, takes}
-use Rattle.plan_rules.specs.Plan.{base, needs, planWords, planOf, planSize}
+use Rattle.plan_rules.specs.Plan.{base, tableWord, needs, planWords, planOf, planSize}
 use Rattle.plan_rules.specs.Run.{selfOf, edgeHeld, rowHeld, rowsOf, runFrom, run, isPlan}
-use Rattle.plan_rules.proofs.Lists.{all-weaker}
-use Rattle.plan_rules.proofs.Legal.{legal-closed, legal-root}
+use Rattle.lists.proofs.Flattened.{all-weaker}
+use Rattle.graph_rules.proofs.Flat.{from-length}
+use Rattle.graph_rules.proofs.Taken.{taken-root}
+use Rattle.words.proofs.GraphWords.{from-edge}
 use Rattle.plan_rules.proofs.RunIsWalk.{base-sane, takes-few, plan-runs}
 use Rattle.plan_rules.proofs.Decided.{plan-decided}
 use Rattle.runner.specs.Prepared.{PlanOn}
@@ -97,7 +99,7 @@ module _ (g : Graph) (words : List ℕ) (store : MaskStore) (t : Taken g words s
   edge-64 : (w : ℕ) → edgeHeld (store .count) w ≡ true → edgeHeld 64 w ≡ true
   edge-64 w h =
       ⊎-elim (λ l. let k : w < 2 + store .count = ltb-true _ _ l in or-left (ltb w 66) _ (lt-ltb w 66 (omega (arith, few))))
-      (λ q. or-right (ltb w 66) (eqb w 65535) q) (or-cases (ltb w (2 + store .count)) _ h)
+      (λ q. or-right (ltb w 66) (eqb w tableWord) q) (or-cases (ltb w (2 + store .count)) _ h)
 
   row-64 : (row : List ℕ) → rowHeld (store .count) row ≡ true → rowHeld 64 row ≡ true
   row-64 row h =
@@ -117,11 +119,20 @@ module _ (g : Graph) (words : List ℕ) (store : MaskStore) (t : Taken g words s
         held = all-weaker (rowHeld (store .count)) (rowHeld 64) row-64 (rowsOf base g words) (b .1);
       }
 
+-- of well-formed graph words (refusal 12) a target is a state, and so is the root, or there are none
+module _ (graph : List ℕ) (fits : graphFits graph ≡ true) where
+  pub targets-closed : (s c u : ℕ) → to (graphFrom graph) s c ≡ some u → u < length (graphFrom graph .states)
+  targets-closed s c u e = rw (from-length graph) (from-edge graph fits s c u e .3)
+
+  pub root-state : (graphFrom graph .root < length (graphFrom graph .states)) ⊎ (length (graphFrom graph .states) ≡ 0)
+  unfolding graphFrom
+  root-state = ⊎-elim (λ h. inl (rw (from-length graph) h)) (λ h. inr (from-length graph ∙ h .0)) (taken-root graph fits)
+
 -- every text is run by them as the graph walks it
 pub runs-alike : (graph words : List ℕ) (store : MaskStore) → graphFits graph ≡ true → Taken (graphFrom graph) words store → RunsAlike (graphFrom graph) words (store .tables)
 unfolding run
 runs-alike graph words store fits t text bytes =
-    plan-runs base base-sane (graphFrom graph) store (legal-closed graph fits) (legal-root graph fits) (t .room) words (t .plan) text bytes
+    plan-runs base base-sane (graphFrom graph) store (targets-closed graph fits) (root-state graph fits) (t .room) words (t .plan) text bytes
 
 -- ---- the call
 

@@ -18,7 +18,6 @@ use Rattle.mask_store.specs.declared.MaskStore.{MaskStore}
 use Rattle.mask_store.specs.Masks.{takes, grown}
 use Rattle.plan_rules.specs.Plan.{Settings, Sane, needs, planOf, planSize}
 use Rattle.plan_rules.specs.Run.{run, isPlan}
-use Rattle.plan_rules.proofs.Legal.{legal-closed, legal-root}
 use Rattle.plan_rules.proofs.RunIsWalk.{plan-runs}
 use Rattle.planning.specs.declared.plan.PlanAnswer.the-variants.{Planned, Refused as NoPlan}
 use Rattle.scans.specs.declared.scan.Place.{Place}
@@ -29,6 +28,7 @@ use Rattle.scans.specs.Scan.{past}
 use Rattle.plans.specs.Run.{planRefusal, runRefusal, runCall, plannedRefusal, plannedList}
 use Rattle.scans.specs.List.{noList, scanList}
 use Rattle.scans.proofs.ListAnswers.{list-past}
+use Rattle.plans.proofs.Running.{targets-closed, root-state}
 
 zero-one : _≡_ {A = ℕ} 0 1 → ⊥
 zero-one e = omega arith
@@ -97,7 +97,7 @@ module _ (set : Settings) (graph words : List ℕ) (store : MaskStore) where
   unfolding runCall runRefusal
   taken-reads sane t text bytes =
       let r : runCall set graph words store text ≡ reading (run set from words store text) = rw (t .legal, taken-none t, runCall) in
-      r ∙ ap reading (plan-runs set sane from store (legal-closed graph (t .legal)) (legal-root graph (t .legal)) (t .room) words (t .planned) text bytes)
+      r ∙ ap reading (plan-runs set sane from store (targets-closed graph (t .legal)) (root-state graph (t .legal)) (t .room) words (t .planned) text bytes)
 
   -- of any graph words, plan words and store: a run that is not refused answers what `read_graph` answers
   pub run-is-walk : Sane set → (text : List ℕ) → Bytes text → ((n : ℕ) → runCall set graph words store text ≡ Refused n → ⊥)

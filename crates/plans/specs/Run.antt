@@ -19,7 +19,7 @@ use Rattle.scans.specs.declared.scan.Scan.{Scan}
 use Rattle.scans.specs.Scan.{past}
 use Rattle.scans.specs.List.{ScanList, noList, scanList}
 
--- of graph words that 12 takes: 14, 15 and 14 again, or 0. "plan below 3 words a state"; "a run's plan, where 15 doesn't hold, not the one its graph
+-- of well-formed graph words (refusal 12): 14, 15 and 14 again, or 0. "plan below 3 words a state"; "a run's plan, where 15 doesn't hold, not the one its graph
 -- and store give or naming a mask not held"
 unfoldable pub planRefusal : Settings → Graph → List ℕ → MaskStore → ℕ
 planRefusal set g words store =

@@ -6,13 +6,18 @@ ghost use lib.ListN.{length, drop};
 ghost use Rattle.graph_rules.specs.Graph.{graphFits, graphFrom};
 ghost use Rattle.graph_rules.specs.Read.{readGraph};
 ghost use Rattle.plan_rules.specs.Plan.{base, planSize};
-ghost use Rattle.runner.specs.Prepared.{Prepared, PlanOn};
+ghost use Rattle.runner.specs.Prepared.{edgesSize, testsSize, Prepared, PlanOn};
 ghost use Rattle.scans.specs.Scan.{entryOf, past};
 ghost use Rattle.scans.specs.List.{listFrom};
 ghost use Rattle.plans.specs.Run.{RunsAlike, plannedRefusal, plannedList};
 use mask_store::MaskStore;
+use runner::prepare::ENDS;
+use runner::prepare::TESTS;
+use runner::prepare::prepare;
+use scans::list::ENTRY;
 use scans::list::ListAnswer;
 use scans::list::Listed;
+use scans::list::put_entry;
 use scans::scan::Entry;
 use scans::scan::Place;
 use scans::scan::Scan;
@@ -31,7 +36,7 @@ fn planned_entry(
     requires { ⌜ at < length (now text) ⌝ }
     requires { ⌜ (planSize base (graphFrom (now graph)) ≤ length (now plan)) × PlanOn (graphFrom (now graph)) (now plan) ⌝ }
     requires { ⌜ (length (now tables) ≡ 2048) × RunsAlike (graphFrom (now graph)) (now plan) (now tables) ⌝ }
-    requires { ⌜ (length (now ends) ≡ 2048) × ((length (now tests) ≡ 24576) × Prepared (graphFrom (now graph)) (now ends) (now tests)) ⌝ }
+    requires { ⌜ (length (now ends) ≡ edgesSize) × ((length (now tests) ≡ testsSize) × Prepared (graphFrom (now graph)) (now ends) (now tests)) ⌝ }
     ensures { λ r. ⌜ r ≡ entryOf (now (text .entry)) at (readGraph (graphFrom (now (graph .entry))) (drop at (now (text .entry)))) ⌝ }
 {
     let r = runner::run::run(graph, plan, tables, ends, tests, &text[at..]);
@@ -53,10 +58,10 @@ fn fill(
     requires { ⌜ from ≤ length (now text) ⌝ }
     requires { ⌜ (planSize base (graphFrom (now graph)) ≤ length (now plan)) × PlanOn (graphFrom (now graph)) (now plan) ⌝ }
     requires { ⌜ (length (now tables) ≡ 2048) × RunsAlike (graphFrom (now graph)) (now plan) (now tables) ⌝ }
-    requires { ⌜ (length (now ends) ≡ 2048) × ((length (now tests) ≡ 24576) × Prepared (graphFrom (now graph)) (now ends) (now tests)) ⌝ }
+    requires { ⌜ (length (now ends) ≡ edgesSize) × ((length (now tests) ≡ testsSize) × Prepared (graphFrom (now graph)) (now ends) (now tests)) ⌝ }
     ensures { λ r. ⌜ (r ≡ listFrom (now (graph .entry)) (now (text .entry)) from (now (out .entry)) .listed) × (now (out .exit) ≡ listFrom (now (graph .entry)) (now (text .entry)) from (now (out .entry)) .buffer) ⌝ }
 {
-    let room = out.len() / 3;
+    let room = out.len() / ENTRY;
     let mut n: usize = 0;
     let mut at = from;
     while n < room {
@@ -69,7 +74,7 @@ fn fill(
             };
         }
         let e = planned_entry(graph, plan, tables, ends, tests, text, at);
-        scans::list::put_entry(out, n, at, e);
+        put_entry(out, n, at, e);
         at = e.end;
         n += 1;
     }
@@ -105,7 +110,7 @@ fn refusal(scan: Scan, graph: &[u16], plan: &[u16], store: MaskStore, text: &[u8
     crate::run::refusal(graph, plan, store)
 }
 
-// A text's tokens and gaps from a scan on, as many as there is room for; or 12, 14, 15 or 16, and the scan and the buffer as they were.
+// A text's tokens and gaps from a scan on, as many as there is room for; or 12, 14, 15 or 16, and the scan and the buffer unchanged.
 pub fn scan_planned(
     scan: Scan,
     graph: &[u16],
@@ -126,9 +131,9 @@ pub fn scan_planned(
     let place = scan.place;
     match place {
         Place::Reading(at) => {
-            let mut ends = [0u16; 2048];
-            let mut tests = [0u8; 24576];
-            runner::prepare::prepare(graph, &mut ends, &mut tests);
+            let mut ends = [0u16; ENDS];
+            let mut tests = [0u8; TESTS];
+            prepare(graph, &mut ends, &mut tests);
             let tables = store.tables;
             fill(graph, plan, &tables, &ends, &tests, text, at, out)
         }

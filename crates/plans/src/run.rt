@@ -6,15 +6,18 @@ ghost use Rattle.plan_rules.specs.Plan.{base};
 ghost use Rattle.plans.specs.Run.{planRefusal, runRefusal, runCall};
 use mask_store::MaskStore;
 use readings::read::Read;
+use runner::prepare::ENDS;
+use runner::prepare::TESTS;
+use runner::prepare::prepare;
 
-// Why the words are no plan of a graph that 12 takes, on this store: 14 or 15; or 0. The plan of graph and store names no mask that the store lacks
+// Why the words are no plan of well-formed graph words (refusal 12), on this store: 14 or 15; or 0. The plan of graph and store names no mask that the store lacks
 // exactly where the store lacks no class that the graph needs.
 pub(crate) fn refusal(graph: &[u16], plan: &[u16], store: MaskStore) -> u8
     requires { ⌜ graphFits (now graph) ≡ true ⌝ }
     ensures { λ r. ⌜ r ≡ planRefusal base (graphFrom (now (graph .entry))) (now (plan .entry)) store ⌝ }
 {
-    let states = words::word(graph, 0);
-    if plan.len() < 3 * states {
+    let states = words::graph::states(graph);
+    if plan.len() < plan_rows::layout::ROW * states {
         return 14;
     }
     let grown = plan_rows::needs::grow(graph, store);
@@ -53,9 +56,9 @@ pub fn run(graph: &[u16], plan: &[u16], store: MaskStore, text: &[u8]) -> Read
     if no != 0 {
         return Read::Refused(no);
     }
-    let mut ends = [0u16; 2048];
-    let mut tests = [0u8; 24576];
-    runner::prepare::prepare(graph, &mut ends, &mut tests);
+    let mut ends = [0u16; ENDS];
+    let mut tests = [0u8; TESTS];
+    prepare(graph, &mut ends, &mut tests);
     let tables = store.tables;
     readings::read::answer(runner::run::run(graph, plan, &tables, &ends, &tests, text))
 }

@@ -1,33 +1,30 @@
 -- From what a build answers and leaves in the two buffers to what is printed. Assumes nothing.
-use mathlib.Core.Path.{_≡_, refl, sym, ap, subst, _∙_}
-use mathlib.Core.Bool.{true, false, _||_}
+use mathlib.Core.Path.{_≡_, sym, ap, subst, _∙_}
+use mathlib.Core.Bool.{_||_}
 use mathlib.Core.List.{List, _++_, flatMap}
-use Prim.Native.Nat.{ℕ, _+_, _*_, _%_, _≤_, _<_}
+use Prim.Native.Nat.{ℕ, _%_, _≤_, _<_}
 use native.Mathlib.Omega.{arith}
 use lib.Dec.{eqb, ltb}
 use lib.ListN.{length, getD, drop, length-append}
 use Rattle.lists.proofs.Bools.{Is, is, yes-is, no-is}
 use Rattle.graph_rules.specs.Table.{tableOf}
-use Rattle.graph_rules.specs.Graph.{Graph, graphFrom, graphFits}
+use Rattle.graph_rules.specs.Graph.{Graph, graphFrom}
 use Rattle.graph_rules.specs.Build.{Built, build, errorWords}
 use Rattle.graph_rules.proofs.Taken.{taken-long}
-use Rattle.graph.specs.New.{Outcome, refusedBy, conflicts, wrote, wordsOf, newOf, imageOf}
+use Rattle.graph.specs.New.{Outcome, conflicts, wrote, wordsOf, newOf, imageOf}
 use Rattle.graph.specs.declared.new.Counts.{Counts}
-use Rattle.graph.specs.declared.new.Answer.{Answer}
-use Rattle.graph.specs.declared.new.Answer.the-variants.{Built as Made, Refused}
+use Rattle.graph.specs.declared.new.BuildAnswer.{BuildAnswer}
+use Rattle.graph.specs.declared.new.BuildAnswer.the-variants.{Built as Made, Refused}
 use Rattle.graph.proofs.Outcomes.{answered}
 use Rattle.graph.proofs.ReadingsAlike.{returned-taken}
 use Rattle.graph.proofs.AllReached.{returned-back}
 use Rattle.display.specs.Text.{bytes, decimal}
-use Rattle.display.specs.Display.{displayed, conflictLine}
+use Rattle.display.specs.Display.{displayed}
 use Rattle.display.proofs.Decimals.{below-thousand}
 use Rattle.display.proofs.Sizes.{graph-size}
-use Rattle.print.specs.Print.{space, line, printedBuild, refusedLine, printedBy, printed}
-use Rattle.print.specs.Parts.{errorsFit, errorLines, wordsText, answerText, Held, Holds}
+use Rattle.print.specs.Print.{wordsEach, mostPrinted, space, line, printedBuild, refusedLine, printedBy, printed}
+use Rattle.print.specs.Parts.{errorLines, wordsText, answerText, Held, Holds}
 use Rattle.print.proofs.Errors.{listed-fit, listed-lines, lines-size}
-
-not-made : {c : Counts} {n : ℕ} → Refused n ≡ Made c → ⊥
-not-made e = let z : _≡_ {A = ℕ} 0 1 = cc in omega arith
 
 -- an image that is not refused is not refused by 13
 image-made : (image graph errors : List ℕ) (c : Counts) → imageOf image graph errors .answer ≡ Made c
@@ -36,7 +33,7 @@ unfolding imageOf
 image-made image graph errors c made = go (is (eqb (length image % 2) 1 || ltb 65536 (length image)))
   where
     go : Is (eqb (length image % 2) 1 || ltb 65536 (length image)) → imageOf image graph errors ≡ newOf (wordsOf image) graph errors
-    go (yes-is q) = absurd (not-made (rw q at made))
+    go (yes-is q) = let m = rw q at made in let z : _≡_ {A = ℕ} 0 1 = cc in absurd (omega arith)
     go (no-is q) = rw q
 
 -- ---- a build that was answered with counts, in buffers g₀ and e₀
@@ -48,7 +45,7 @@ module _ (table g₀ e₀ : List ℕ) (c : Counts) (made : newOf table g₀ e₀
   abbrev left : List ℕ
   left = newOf table g₀ e₀ .errors
 
-  -- the error buffer begins with the words of the build's errors
+  -- the conflict buffer begins with the words of the build's conflicts
   errors-first : left ≡ flatMap errorWords (b .errors) ++ drop (length (conflicts b)) e₀
   unfolding wrote conflicts
   errors-first = ap (λ (x : Outcome). x .errors) (answered table g₀ e₀ c made .outcome)
@@ -72,11 +69,11 @@ module _ (table g₀ e₀ : List ℕ) (c : Counts) (made : newOf table g₀ e₀
 
 -- ---- what `from_image` answers and leaves
 
-abbrev left-of : Answer → List ℕ → List ℕ → Outcome
+abbrev left-of : BuildAnswer → List ℕ → List ℕ → Outcome
 left-of answer graph errors = record { answer = answer; graph = graph; errors = errors }
 
 module _ (image graph errors : List ℕ) where
-  pub image-holds : (answer : Answer) → left-of answer graph errors ≡ imageOf image space space → Holds answer graph errors
+  pub image-holds : (answer : BuildAnswer) → left-of answer graph errors ≡ imageOf image space space → Holds answer graph errors
   image-holds (Made c) e =
       let o = image-made image space space c (ap (λ (x : Outcome). x .answer) (sym e)) in
       let q : left-of (Made c) graph errors ≡ newOf (wordsOf image) space space = e ∙ o in
@@ -84,7 +81,7 @@ module _ (image graph errors : List ℕ) where
       (build-held (wordsOf image) space space c (ap (λ (x : Outcome). x .answer) (sym q)))
   image-holds (Refused n) e = tt
 
-  pub image-text : (answer : Answer) → left-of answer graph errors ≡ imageOf image space space → answerText answer graph errors ≡ printed image
+  pub image-text : (answer : BuildAnswer) → left-of answer graph errors ≡ imageOf image space space → answerText answer graph errors ≡ printed image
   unfolding printed
   image-text (Made c) e =
       let o = image-made image space space c (ap (λ (x : Outcome). x .answer) (sym e)) in
@@ -94,10 +91,10 @@ module _ (image graph errors : List ℕ) where
       ∙ ap (λ (x : Outcome). printedBy (x .answer) (build (tableOf (wordsOf image)))) e
   image-text (Refused n) e = ap (λ (x : Outcome). printedBy (x .answer) (build (tableOf (wordsOf image)))) e
 
--- ---- how long it is at most: 127 states in 32,768 words; six bytes an error word; a refusal of 8 bits
+-- ---- how long it is at most: 127 states in 32,768 words; six bytes a conflict word; a refusal of 8 bits
 
-pub words-size : (graph errors : List ℕ) → ((i : ℕ) → getD graph i 0 < 65536) → ((i : ℕ) → getD errors i 0 < 65536) → length graph ≤ 32768 → length errors ≤ 32768
-    → (k : ℕ) → Held graph errors k → length (wordsText graph errors k) ≤ 1019188
+pub words-size : (graph errors : List ℕ) → ((i : ℕ) → getD graph i 0 < 65536) → ((i : ℕ) → getD errors i 0 < 65536) → length graph ≤ wordsEach → length errors ≤ wordsEach
+    → (k : ℕ) → Held graph errors k → length (wordsText graph errors k) ≤ mostPrinted
 unfolding wordsText
 words-size graph errors small-graph small-errors h l k held =
     let g = graph-size graph (held .taken) small-graph in
@@ -107,7 +104,7 @@ words-size graph errors small-graph small-errors h l k held =
     let m = length-append (line (displayed (graphFrom graph))) (errorLines k errors) in
     omega arith
 
-pub refused-size : (n : ℕ) → n < 1000 → length (refusedLine n) ≤ 1019188
+pub refused-size : (n : ℕ) → n < 1000 → length (refusedLine n) ≤ mostPrinted
 unfolding refusedLine
 refused-size n h =
     let d = below-thousand n h in

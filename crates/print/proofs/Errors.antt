@@ -1,11 +1,10 @@
--- Errors' words one after another, and their lines: one at a time, how long they are at most, and those of a build. Assumes nothing.
-use mathlib.Core.Path.{_≡_, refl, sym, ap, subst, _∙_}
+-- Conflicts' words one after another, and their lines: one at a time, how long they are at most, and those of a build. Assumes nothing.
+use mathlib.Core.Path.{_≡_, refl, ap, subst, _∙_}
 use mathlib.Core.Bool.{true}
 use mathlib.Core.List.{List, [], _∷_, _++_, flatMap, append-assoc}
 use Prim.Native.Nat.{ℕ, zero, suc, _+_, _-_, _*_, _≤_, _<_}
 use native.Mathlib.Omega.{arith}
 use borrow.Author.Tests.{le-leb}
-use lib.Dec.{leb}
 use lib.ListN.{length, getD, drop, length-append, length-drop}
 use lib.Seq.{getD-drop, drop-at}
 use Rattle.lists.proofs.Bools.{and-both, and-intro}
@@ -17,7 +16,7 @@ use Rattle.display.proofs.Conflicts.{error-long, line-size, line-of-error}
 use Rattle.print.specs.Print.{line}
 use Rattle.print.specs.Parts.{later, errorsFit, errorLines}
 
--- ---- the first of k errors, and the rest
+-- ---- the first of k conflicts, and the rest
 
 pub lines-next : (k : ℕ) (w : List ℕ) → 0 < k → errorLines k w ≡ line (lineOf w) ++ errorLines (k - 1) (later w)
 unfolding errorLines
@@ -52,7 +51,7 @@ lines-size (suc k) w small f =
     let m = length-append (line (lineOf w)) (errorLines k (later w)) in
     omega arith
 
--- ---- the errors of a build, whatever stands after their words
+-- ---- the conflicts of a build, whatever stands after their words
 
 fits-long : (w : List ℕ) → 2 ≤ length w → 2 + getD w 1 0 ≤ length w → errorFits w ≡ true
 unfolding errorFits

@@ -7,7 +7,7 @@ use lib.ListN.{length}
 use Rattle.lists.specs.Report.{answering}
 use Rattle.graph_rules.specs.Table.{tableOf}
 use Rattle.graph_rules.specs.Build.{Built, build}
-use Rattle.graph.specs.declared.new.Answer.{Answer}
+use Rattle.graph.specs.declared.new.BuildAnswer.{BuildAnswer}
 use Rattle.graph.specs.New.{wordsOf}
 use Rattle.graph.specs.Report.{imageRefusal}
 use Rattle.graph.proofs.Report.{answerBy, image-answer}
@@ -22,7 +22,7 @@ print-report image found = written-report (printed image) found
 
 pub printed-report : (image : List ℕ) → printed image ≡ printedFor (imageRefusal image space space) (build (tableOf (wordsOf image)))
 unfolding printed
-printed-report image = ap (λ (a : Answer). printedBy a b) (image-answer image space space) ∙ go (imageRefusal image space space)
+printed-report image = ap (λ (a : BuildAnswer). printedBy a b) (image-answer image space space) ∙ go (imageRefusal image space space)
   where
     b : Built
     b = build (tableOf (wordsOf image))

@@ -2,12 +2,11 @@
 use mathlib.Core.Path.{_≡_}
 use mathlib.Core.List.{List}
 use Prim.Native.Nat.{ℕ, _≤_}
-use borrow.Author.Tests.{le-leb}
 use lib.ListN.{length}
-use Rattle.display.specs.Answers.{written}
 use Rattle.display.specs.declared.Shown.the-variants.{Bytes}
+use Rattle.display.proofs.Rooms.{written-room}
 use Rattle.print.specs.Print.{printed, printCall}
 
 pub print-room : (image found : List ℕ) → length (printed image) ≤ length found → printCall image found .answer ≡ Bytes (length (printed image))
-unfolding printCall written
-print-room image found h = rw (le-leb (length (printed image)) (length found) h)
+unfolding printCall
+print-room image found = written-room (printed image) found

@@ -8,21 +8,22 @@
 
 ghost use mathlib.Core.Path.{_≡_};
 ghost use mathlib.Core.Bool.{true};
-ghost use mathlib.Core.List.{_++_};
 ghost use Prim.Native.Nat.{_≤_};
 ghost use lib.ListN.{length};
 ghost use Rattle.display.specs.Text.{Wrote, Counts};
 ghost use Rattle.display.specs.Display.{lineOf};
 ghost use Rattle.display.specs.Answers.{errorFits};
-ghost use Rattle.print.specs.Print.{line, refusedLine, printed, printCall};
+ghost use Rattle.print.specs.Print.{wordsEach, mostPrinted, line, refusedLine, printed, printCall};
 ghost use Rattle.print.specs.Parts.{errorsFit, errorLines, Held, wordsText, Holds, answerText};
 use display::Shown;
-use graph::new::Answer;
+use graph::new::BuildAnswer;
 
 // What is printed for an image is never longer.
 pub const ROOM: usize = 1019188;
+// The words of each of the build's two buffers.
+const WORDS: usize = 32768;
 
-// The line of the error that the words begin with.
+// The line of the conflict that the words begin with.
 fn error_line(out: &mut [u8], at: usize, errors: &[u16]) -> usize
     requires { ⌜ errorFits (now errors) ≡ true ⌝ }
     requires { ⌜ Counts at (line (lineOf (now errors))) ⌝ }
@@ -32,7 +33,7 @@ fn error_line(out: &mut [u8], at: usize, errors: &[u16]) -> usize
     display::put::byte(out, next, b'\n')
 }
 
-// The lines of the first `count` errors.
+// The lines of the first `count` conflicts.
 fn error_lines(out: &mut [u8], at: usize, errors: &[u16], count: usize) -> usize
     requires { ⌜ errorsFit count (now errors) ≡ true ⌝ }
     requires { ⌜ Counts at (errorLines count (now errors)) ⌝ }
@@ -50,7 +51,7 @@ fn error_lines(out: &mut [u8], at: usize, errors: &[u16], count: usize) -> usize
     next
 }
 
-// The graph's text and a line end, then a line for each error.
+// The graph's text and a line end, then a line for each conflict.
 fn built(out: &mut [u8], at: usize, graph: &[u16], errors: &[u16], count: usize) -> usize
     requires { ⌜ Held (now graph) (now errors) count ⌝ }
     requires { ⌜ Counts at (wordsText (now graph) (now errors) count) ⌝ }
@@ -71,16 +72,16 @@ fn refused(out: &mut [u8], at: usize, n: usize) -> usize
 }
 
 // What is printed of a build's answer and of the words it has left in the two buffers, from the front of the bytes.
-fn text(out: &mut [u8], answer: Answer, graph: &[u16], errors: &[u16]) -> usize
+fn text(out: &mut [u8], answer: BuildAnswer, graph: &[u16], errors: &[u16]) -> usize
     requires { ⌜ Holds answer (now graph) (now errors) ⌝ }
-    requires { ⌜ length (now graph) ≤ 32768 ⌝ }
-    requires { ⌜ length (now errors) ≤ 32768 ⌝ }
+    requires { ⌜ length (now graph) ≤ wordsEach ⌝ }
+    requires { ⌜ length (now errors) ≤ wordsEach ⌝ }
     ensures text { λ r. ⌜ Wrote (now (out .entry)) 0 (answerText answer (now (graph .entry)) (now (errors .entry))) (now (out .exit)) r ⌝ }
-    ensures room { λ r. ⌜ r ≤ 1019188 ⌝ }
+    ensures room { λ r. ⌜ r ≤ mostPrinted ⌝ }
 {
     match answer {
-        Answer::Built(counts) => built(out, 0, graph, errors, counts.errors),
-        Answer::Refused(n) => refused(out, 0, n as usize),
+        BuildAnswer::Built(counts) => built(out, 0, graph, errors, counts.errors),
+        BuildAnswer::Refused(n) => refused(out, 0, n as usize),
     }
 }
 
@@ -88,10 +89,10 @@ fn text(out: &mut [u8], answer: Answer, graph: &[u16], errors: &[u16]) -> usize
 pub fn print(image: &[u8], out: &mut [u8]) -> Shown
     ensures answer { λ r. ⌜ r ≡ printCall (now (image .entry)) (now (out .entry)) .answer ⌝ }
     ensures buffer { λ r. ⌜ now (out .exit) ≡ printCall (now (image .entry)) (now (out .entry)) .buffer ⌝ }
-    ensures room { λ r. ⌜ length (printed (now (image .entry))) ≤ 1019188 ⌝ }
+    ensures room { λ r. ⌜ length (printed (now (image .entry))) ≤ mostPrinted ⌝ }
 {
-    let mut graph = [0u16; 32768];
-    let mut errors = [0u16; 32768];
+    let mut graph = [0u16; WORDS];
+    let mut errors = [0u16; WORDS];
     let answer = graph::image::from_image(image, &mut graph, &mut errors);
     let mut none = [0u8; 0];
     let length = text(&mut none, answer, &graph, &errors);

@@ -5,6 +5,7 @@
 // a failed read nothing is printed. (The kit's programs cannot end with a status of their own.)
 ghost use mathlib.Core.Path.{_≡_};
 ghost use lib.ListN.{length};
+ghost use Rattle.print.specs.Print.{mostPrinted};
 use display::Shown;
 use input::Read;
 
@@ -14,7 +15,7 @@ mod output;
 
 // Room for what is printed for any image.
 fn room() -> [u8; print::ROOM]
-    ensures { λ r. ⌜ 1019188 ≡ length r ⌝ }
+    ensures { λ r. ⌜ mostPrinted ≡ length r ⌝ }
 {
     [0; print::ROOM]
 }

@@ -1,58 +1,34 @@
 -- Rule 7: a worklist over parents finds the states that are kept. Assumes nothing.
-use mathlib.Core.Path.{_≡_, sym, ap, subst, _∙_}
-use mathlib.Core.Bool.{Bool, true, false, not, cond, _||_, false≢true}
+use mathlib.Core.Path.{_≡_, refl, sym, ap, subst, _∙_}
+use mathlib.Core.Bool.{Bool, true, false, cond, _||_, false≢true}
 use mathlib.Core.List.{List, _++_}
 use mathlib.Core.Logic.{⊎-elim}
+use mathlib.Core.Option.{Option, none, some, Option·getD}
 use Prim.Native.Nat.{ℕ, _+_, _*_, _-_, _/_, _%_, _≤_, _<_, zero-le}
 use native.Mathlib.Nat.{not-suc-le-zero}
 use native.Mathlib.Omega.{arith}
-use borrow.Author.Tests.{eqb-true, ne-eqb}
 use lib.Dec.{eqb}
 use lib.ListN.{length, getD, replicate, length-replicate}
 use Rattle.lists.specs.Sets.{In, Reach}
-use Rattle.lists.proofs.Bools.{Is, is, yes-is, no-is, or-left, or-right, lt-or-le}
+use Rattle.lists.proofs.Bools.{lt-or-le}
 use Rattle.lists.proofs.Closure.{closure-is, closure-length}
 use Rattle.lists.proofs.Padding.{padded}
 use Rattle.lists.proofs.Worklist.{Work, AllIn, none-in, closed}
-use Rattle.graph_rules.specs.Graph.{Graph, stateOf, acceptOf, earlyOf, leads, orNone, graphFrom, graphFits}
+use Rattle.graph_rules.specs.Graph.{Graph, stateOf, leads}
 use Rattle.graph_rules.specs.Build.{present, marked, kept}
-use Rattle.graph_rules.proofs.Flat.{from-accept, from-early}
-use Rattle.graph_rules.proofs.Taken.{taken-long}
-use Rattle.prune.specs.Matrix.{bitAt}
+use Rattle.prune.specs.Matrix.{matrixRow, byteOf, bitAt}
 use Rattle.prune.proofs.BitRows.{byte-none}
-use Rattle.graph_rules.specs.Layout.{noState, mostStates, marksPlace, graphPlace, noLeaf, acceptIn, earlyIn}
+use Rattle.graph_rules.specs.Layout.{mostStates}
 
--- ---- marks, from their word
+-- ---- a mark, from the word of its leaf
 
-present-or : (k x : ℕ) → present (orNone k x) ≡ not (eqb x k)
-present-or k x = go (is (eqb x k))
-  where
-    go : Is (eqb x k) → present (orNone k x) ≡ not (eqb x k)
-    go (yes-is q) = rw q
-    go (no-is q) = rw q
+pub is-present : (k : ℕ) (o : Option ℕ) → (Option·getD o k ≡ k → ⊥) → present o ≡ true
+is-present k none n = absurd (n refl)
+is-present k (some l) n = refl
 
-module _ (w : List ℕ) (taken : graphFits w ≡ true) (s : ℕ) (h : s < getD w 0 0) where
-  abbrev word : ℕ
-  word = getD w (graphPlace s marksPlace) 0
-
-  marked-is : marked (stateOf (graphFrom w) s) ≡ (not (eqb (acceptIn word) noLeaf) || not (eqb (earlyIn word) noLeaf))
-  unfolding acceptOf earlyOf
-  marked-is =
-      let a = ap present (from-accept w (taken-long w taken) s h) ∙ present-or noLeaf (acceptIn word) in
-      let b = ap present (from-early w (taken-long w taken) s h) ∙ present-or noLeaf (earlyIn word) in
-      λ i. a i || b i
-
-  pub unmarked : getD w (graphPlace s marksPlace) 0 ≡ noState → marked (stateOf (graphFrom w) s) ≡ false
-  unmarked e = marked-is ∙ ap (λ (x : ℕ). not (eqb (acceptIn x) noLeaf) || not (eqb (earlyIn x) noLeaf)) e
-
-  pub is-marked : getD w (graphPlace s marksPlace) 0 < 65536 → (getD w (graphPlace s marksPlace) 0 ≡ noState → ⊥) → marked (stateOf (graphFrom w) s) ≡ true
-  is-marked small n = marked-is ∙ go (is (eqb (acceptIn word) noLeaf))
-    where
-      go : Is (eqb (acceptIn word) noLeaf) → (not (eqb (acceptIn word) noLeaf) || not (eqb (earlyIn word) noLeaf)) ≡ true
-      go (no-is q) = or-left _ _ (ap not q)
-      go (yes-is q) =
-          let low = eqb-true (acceptIn word) noLeaf q in
-          or-right (not (eqb (acceptIn word) noLeaf)) _ (ap not (ne-eqb (earlyIn word) noLeaf (λ e. n (omega arith))))
+pub is-absent : (k : ℕ) (o : Option ℕ) → (o ≡ some k → ⊥) → Option·getD o k ≡ k → present o ≡ false
+is-absent k none n e = refl
+is-absent k (some l) n e = absurd (n (ap {B = Option ℕ} some e))
 
 -- ---- the worklist
 
@@ -99,12 +75,12 @@ module _ (g : Graph) where
 
   -- eight states at once, whose byte of parents is zero
   pub found-byte : (m : List ℕ) → ((t p : ℕ) → t < mostStates → p < mostStates → bitAt m t p ≡ leads (stateOf g p) t)
-      → (out : List Bool) (t p : ℕ) → t < mostStates → p < mostStates → getD m (128 * t + p / 8) 0 ≡ 0 → In out t → AllIn (found t) out p
+      → (out : List Bool) (t p : ℕ) → t < mostStates → p < mostStates → getD m (byteOf t p) 0 ≡ 0 → In out t → AllIn (found t) out p
       → AllIn (found t) out (p + (8 - p % 8))
   found-byte m bits out t p ht hp e i all j h =
       ⊎-elim (λ l. all j l) (λ l.
       let q : j / 8 ≡ p / 8 = omega arith in
-      let z : bitAt m t j ≡ false = byte-none m t j (ap (λ (k : ℕ). getD m (128 * t + k) 0) q ∙ e) in
+      let z : bitAt m t j ≡ false = byte-none m t j (ap (λ (k : ℕ). getD m (matrixRow * t + k) 0) q ∙ e) in
       found-none out t j i (sym (bits t j ht (omega arith)) ∙ z))
       (lt-or-le j p)
 

@@ -4,7 +4,7 @@ use mathlib.Core.Bool.{true, false, false≢true}
 use mathlib.Core.List.{List}
 use mathlib.Core.Option.{some}
 use mathlib.Core.Logic.{_⊎_, inl, inr, ⊎-elim}
-use Prim.Native.Nat.{ℕ, _+_, _*_, _/_, _%_, _<_}
+use Prim.Native.Nat.{ℕ, _+_, _%_, _<_}
 use native.Mathlib.Omega.{arith}
 use borrow.Author.Tests.{eqb-true, eqb-false}
 use lib.Dec.{eqb}
@@ -16,7 +16,7 @@ use Rattle.bits.specs.Bits.{isSet, withBit}
 use Rattle.bits.proofs.Bits.{bit-zero, set-own, set-other}
 use Rattle.graph_rules.specs.Graph.{Graph, stateOf, to, leads}
 use Rattle.graph_rules.proofs.Views.{edge-leads, edge-within, leads-edge}
-use Rattle.prune.specs.Matrix.{bitAt}
+use Rattle.prune.specs.Matrix.{matrixSize, byteOf, bitAt}
 use Rattle.words.proofs.Edges.{Pass, pass-none, pass-more, pass-skip, pass-row}
 use Rattle.graph_rules.specs.Layout.{mostStates}
 
@@ -24,19 +24,19 @@ use Rattle.graph_rules.specs.Layout.{mostStates}
 
 -- the matrix with bit p of row t set
 abbrev pub withParent : List ℕ → ℕ → ℕ → List ℕ
-withParent m t p = set m (128 * t + p / 8) (withBit (p % 8) (getD m (128 * t + p / 8) 0) true)
+withParent m t p = set m (byteOf t p) (withBit (p % 8) (getD m (byteOf t p) 0) true)
 
 -- a byte that is zero has no bit
-pub byte-none : (m : List ℕ) (t p : ℕ) → getD m (128 * t + p / 8) 0 ≡ 0 → bitAt m t p ≡ false
+pub byte-none : (m : List ℕ) (t p : ℕ) → getD m (byteOf t p) 0 ≡ 0 → bitAt m t p ≡ false
 unfolding bitAt
 byte-none m t p e = ap (isSet (p % 8)) e ∙ ap (λ (b : ℕ). eqb b 1) (bit-zero (p % 8))
 
 pub matrix-none : (k t p : ℕ) → bitAt (replicate k 0) t p ≡ false
-matrix-none k t p = byte-none (replicate k 0) t p (replicate-at 0 k (128 * t + p / 8))
+matrix-none k t p = byte-none (replicate k 0) t p (replicate-at 0 k (byteOf t p))
 
-module _ (m : List ℕ) (len : length m ≡ 131072) (t p : ℕ) (ht : t < mostStates) (hp : p < mostStates) where
+module _ (m : List ℕ) (len : length m ≡ matrixSize) (t p : ℕ) (ht : t < mostStates) (hp : p < mostStates) where
   abbrev at : ℕ
-  at = 128 * t + p / 8
+  at = byteOf t p
 
   bit-own : bitAt (withParent m t p) t p ≡ true
   unfolding bitAt
@@ -44,12 +44,12 @@ module _ (m : List ℕ) (len : length m ≡ 131072) (t p : ℕ) (ht : t < mostSt
 
   bit-other : (u q : ℕ) → q < mostStates → ((u ≡ t) × (q ≡ p) → ⊥) → bitAt (withParent m t p) u q ≡ bitAt m u q
   unfolding bitAt
-  bit-other u q hq n = go (is (eqb (128 * u + q / 8) at))
+  bit-other u q hq n = go (is (eqb (byteOf u q) at))
     where
-      go : Is (eqb (128 * u + q / 8) at) → bitAt (withParent m t p) u q ≡ bitAt m u q
-      go (no-is e) = ap (isSet (q % 8)) (getD-set-other m at (128 * u + q / 8) _ 0 (eqb-false (128 * u + q / 8) at e))
+      go : Is (eqb (byteOf u q) at) → bitAt (withParent m t p) u q ≡ bitAt m u q
+      go (no-is e) = ap (isSet (q % 8)) (getD-set-other m at (byteOf u q) _ 0 (eqb-false (byteOf u q) at e))
       go (yes-is e) =
-          let i : 128 * u + q / 8 ≡ at = eqb-true (128 * u + q / 8) at e in
+          let i : byteOf u q ≡ at = eqb-true (byteOf u q) at e in
           let k : q % 8 ≡ p % 8 → ⊥ = λ z. n (omega arith, omega arith) in
           ap (λ (j : ℕ). isSet (q % 8) (getD (withParent m t p) j 0)) i
           ∙ ap (isSet (q % 8)) (getD-set-same m at _ 0 (omega arith))
@@ -70,14 +70,14 @@ module _ (g : Graph) where
   Noted m x = (x .0 < mostStates) × (x .1 < mostStates) × (bitAt m (x .0) (x .1) ≡ true)
 
   pub record Matrix (p c : ℕ) (m : List ℕ) : Type 0 where
-    pub len : length m ≡ 131072
+    pub len : length m ≡ matrixSize
     pub pass : Pass Led p c (Noted m)
 
-  pub parents-none : Matrix 0 0 (replicate 131072 0)
+  pub parents-none : Matrix 0 0 (replicate matrixSize 0)
   parents-none =
       record {
-        len = length-replicate {A = ℕ} 131072 0;
-        pass = pass-none Led (Noted (replicate 131072 0)) (λ x n. false≢true (sym (matrix-none 131072 (x .0) (x .1)) ∙ n .2));
+        len = length-replicate {A = ℕ} matrixSize 0;
+        pass = pass-none Led (Noted (replicate matrixSize 0)) (λ x n. false≢true (sym (matrix-none matrixSize (x .0) (x .1)) ∙ n .2));
       }
 
   module _ (p c : ℕ) (m : List ℕ) (v : Matrix p c m) where
@@ -86,7 +86,7 @@ module _ (g : Graph) where
 
     pub parents-set : (t : ℕ) → t < mostStates → p < mostStates → to g p c ≡ some t → Matrix p (c + 1) (withParent m t p)
     parents-set t ht hp e =
-        record { len = length-set m (128 * t + p / 8) _ ∙ v .len; pass = pass-more Led p c (Noted m) (v .pass) (Noted (withParent m t p)) only keeps hits }
+        record { len = length-set m (byteOf t p) _ ∙ v .len; pass = pass-more Led p c (Noted m) (v .pass) (Noted (withParent m t p)) only keeps hits }
       where
         own : (u q : ℕ) → u ≡ t → q ≡ p → bitAt (withParent m t p) u q ≡ true
         own u q a b = subst₂ (λ (u q : ℕ). bitAt (withParent m t p) u q ≡ true) (sym a) (sym b) (bit-own m (v .len) t p ht hp)

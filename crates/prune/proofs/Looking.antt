@@ -4,7 +4,7 @@ use mathlib.Core.Path.{_≡_, sym, _∙_}
 use mathlib.Core.Bool.{Bool, true, false, false≢true}
 use mathlib.Core.List.{List}
 use mathlib.Core.Logic.{⊎-elim}
-use Prim.Native.Nat.{ℕ, _+_, _*_, _-_, _/_, _%_, _≤_, _<_}
+use Prim.Native.Nat.{ℕ, _+_, _-_, _%_, _≤_, _<_}
 use native.Mathlib.Nat.{not-suc-le-zero}
 use native.Mathlib.Omega.{arith}
 use borrow.Author.Count.{below-more}
@@ -16,7 +16,7 @@ use Rattle.lists.proofs.Closure.{in-below}
 use Rattle.lists.proofs.Counting.{count-length}
 use Rattle.lists.proofs.Worklist.{AllIn, none-in, pop, push, finish, in-keeps, in-cases, count-more, count-room}
 use Rattle.graph_rules.specs.Graph.{Graph, stateOf, leads}
-use Rattle.prune.specs.Matrix.{bitAt}
+use Rattle.prune.specs.Matrix.{byteOf, bitAt}
 use Rattle.prune.proofs.Backward.{seed, Good, found, Search, search-none, found-there, found-byte}
 use Rattle.graph_rules.specs.Layout.{mostStates}
 
@@ -105,7 +105,7 @@ module _ (g : Graph) (n t p : ℕ) (out₀ : List Bool) (top₀ : ℕ) (out : Li
 
   -- eight states at once, none of which is a parent
   pub looked-byte : (m : List ℕ) → ((t p : ℕ) → t < mostStates → p < mostStates → bitAt m t p ≡ leads (stateOf g p) t) → t < mostStates → p < mostStates
-      → getD m (128 * t + p / 8) 0 ≡ 0 → Looked g n t (p + (8 - p % 8)) out₀ top₀ out stack top
+      → getD m (byteOf t p) 0 ≡ 0 → Looked g n t (p + (8 - p % 8)) out₀ top₀ out stack top
   looked-byte m bits ht hp e =
       record {
         search = l .search;

@@ -1,9 +1,20 @@
--- A bit matrix of 1,024 rows of 1,024 bits: bit p of row t is bit p mod 8 of byte 128 t + p / 8. Definitions only.
+-- A bit matrix of a row a state, with a bit for each state. Definitions only.
 use mathlib.Core.Bool.{Bool}
 use mathlib.Core.List.{List}
 use Prim.Native.Nat.{ℕ, _+_, _*_, _/_, _%_}
 use lib.ListN.{getD}
 use Rattle.bits.specs.Bits.{isSet}
 
+-- the bytes of a row, and of all
+abbrev pub matrixRow : ℕ
+matrixRow = 128
+
+abbrev pub matrixSize : ℕ
+matrixSize = 131072
+
+-- the byte with bit p of row t
+abbrev pub byteOf : ℕ → ℕ → ℕ
+byteOf t p = matrixRow * t + p / 8
+
 unfoldable pub bitAt : List ℕ → ℕ → ℕ → Bool
-bitAt m t p = isSet (p % 8) (getD m (128 * t + p / 8) 0)
+bitAt m t p = isSet (p % 8) (getD m (byteOf t p) 0)

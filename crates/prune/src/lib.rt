@@ -3,35 +3,46 @@ use bits::test_bit;
 use bits::with_bit;
 use relabel::numbered;
 use relabel::relabel;
-use words::views::target;
-use words::views::word_of;
-use words::word;
+use words::NONE;
+use words::STATES;
+use words::STEPS;
+use words::graph::NO_LEAF;
+use words::graph::accept;
+use words::graph::early;
+use words::graph::root;
+use words::graph::states;
+use words::graph::target;
 ghost use mathlib.Core.Path.{_≡_};
 ghost use mathlib.Core.Bool.{true, false, _||_};
 ghost use mathlib.Core.List.{_++_};
 ghost use Prim.Native.Nat.{ℕ, _+_, _*_, _-_, _<_};
 ghost use lib.Dec.{eqb};
-ghost use lib.ListN.{getD, drop, replicate};
+ghost use lib.ListN.{getD, replicate};
 ghost use Rattle.graph_rules.specs.Graph.{graphFits, graphFrom, rewritten, stateOf, leads};
 ghost use Rattle.graph_rules.specs.Build.{kept, marked, pruned};
 ghost use Rattle.prune.specs.Matrix.{bitAt};
 ghost use Rattle.graph_rules.specs.Layout.{mostStates};
 
+// A bit for each state, in bytes.
+const ROW: usize = STATES / 8;
+// A row for each state.
+const MATRIX: usize = ROW * STATES;
+
 // The parents of every state, by byte and end edges: bit p of row t is set if state p leads to state t.
-pub fn parents(graph: &[u16]) -> [u8; 131072]
+fn parents(graph: &[u16]) -> [u8; MATRIX]
     requires { ⌜ graphFits (now graph) ≡ true ⌝ }
     ensures { λ r. ⌜ ((t p : ℕ) → t < mostStates → p < mostStates → bitAt r t p ≡ leads (stateOf (graphFrom (now (graph .entry))) p) t) ⌝ }
 {
-    let n = word(graph, 0);
-    let mut out = [0u8; 131072];
+    let n = states(graph);
+    let mut out = [0u8; MATRIX];
     let mut p: usize = 0;
     while p < n {
         let mut c: usize = 0;
-        while c < 257 {
+        while c < STEPS {
             let t = target(graph, p, c);
             c += 1;
-            if t != 65535 {
-                let at = 128 * t + p / 8;
+            if t != NONE {
+                let at = ROW * t + p / 8;
                 out[at] = with_bit(out[at], p % 8, true);
             }
         }
@@ -41,26 +52,29 @@ pub fn parents(graph: &[u16]) -> [u8; 131072]
 }
 
 // Whether state s has a mark, or is the root.
-pub fn is_seed(graph: &[u16], s: usize) -> bool
+fn is_seed(graph: &[u16], s: usize) -> bool
     requires { ⌜ graphFits (now graph) ≡ true ⌝ }
     requires { ⌜ s < getD (now graph) 0 0 ⌝ }
     ensures { λ r. ⌜ r ≡ (marked (stateOf (graphFrom (now (graph .entry))) s) || eqb (graphFrom (now (graph .entry)) .root) s) ⌝ }
 {
-    if word_of(graph, s, 257) != 65535 {
+    if accept(graph, s) != NO_LEAF {
         return true;
     }
-    word(graph, 1) == s
+    if early(graph, s) != NO_LEAF {
+        return true;
+    }
+    root(graph) == s
 }
 
 // The states with a mark, the root, and all that can reach one of these: those reached are put on a stack once each, and their parents looked at.
-pub fn kept(graph: &[u16]) -> [bool; 1024]
+fn kept(graph: &[u16]) -> [bool; STATES]
     requires { ⌜ graphFits (now graph) ≡ true ⌝ }
     ensures { λ r. ⌜ r ≡ kept (graphFrom (now (graph .entry))) ++ replicate (mostStates - getD (now (graph .entry)) 0 0) false ⌝ }
 {
-    let n = word(graph, 0);
+    let n = states(graph);
     let from = parents(graph);
-    let mut out = [false; 1024];
-    let mut stack = [0u16; 1024];
+    let mut out = [false; STATES];
+    let mut stack = [0u16; STATES];
     let mut top: usize = 0;
     let mut next: usize = 0;
     while next < n {
@@ -78,7 +92,7 @@ pub fn kept(graph: &[u16]) -> [bool; 1024]
         let mut p: usize = 0;
         while p < n {
             let parent = p;
-            let byte = from[128 * t + parent / 8];
+            let byte = from[ROW * t + parent / 8];
             if byte == 0 {
                 p += 8 - parent % 8;
                 continue;

@@ -1,22 +1,39 @@
 // The reading of a text by a table: match one byte late, end step, dead state.
 ghost use mathlib.Core.Path.{_≡_};
-ghost use Prim.Native.Nat.{_<_};
+ghost use Prim.Native.Nat.{suc, _<_};
 ghost use lib.ListN.{getD};
 ghost use Rattle.graph_rules.specs.Table.{tableOf, refusal, step};
-ghost use Rattle.graph_rules.specs.Read.{readTable};
+ghost use Rattle.graph_rules.specs.Build.{leafOf, edge};
+ghost use Rattle.graph_rules.specs.Read.{readTable, late, onward};
 ghost use Rattle.readings.specs.Answers.{recorded, tableRead};
 use crate::read::Read;
 use crate::read::Record;
-ghost use Rattle.graph_rules.specs.Layout.{stepCount};
+use legal::step;
+use words::END;
+use words::NONE;
+use words::graph::NO_LEAF;
+ghost use Rattle.graph_rules.specs.Layout.{endStep};
 
-// The target of state s for byte c, or for the end step, c = 256.
-fn step(table: &[u16], s: usize, c: usize) -> usize
+// The record at state s, entered by k byte steps.
+fn mark_at(table: &[u16], s: usize, k: usize, r: Record) -> Record
     requires { ⌜ refusal (now table) ≡ 0 ⌝ }
     requires { ⌜ s < getD (now table) 0 0 ⌝ }
-    requires { ⌜ c < stepCount ⌝ }
-    ensures { λ r. ⌜ (r ≡ step (tableOf (now (table .entry))) s c) × (r < getD (now (table .entry)) 0 0) ⌝ }
+    ensures { λ q. ⌜ recorded (q .leaf) (q .end) ≡ late (leafOf (tableOf (now (table .entry))) s) k (recorded (r .leaf) (r .end)) ⌝ }
 {
-    words::table::row_word(table, words::table::leaves(table), s, c)
+    crate::read::accepted(leaves::leaf_of(table, s), k, r)
+}
+
+// The record after the end step from state s, k bytes passed: that of the end target, if it is not dead.
+fn ended(table: &[u16], s: usize, k: usize, r: Record) -> Record
+    requires { ⌜ refusal (now table) ≡ 0 ⌝ }
+    requires { ⌜ s < getD (now table) 0 0 ⌝ }
+    ensures { λ q. ⌜ recorded (q .leaf) (q .end) ≡ onward (recorded (r .leaf) (r .end)) (λ u. late (leafOf (tableOf (now (table .entry))) u) (suc k) (recorded (r .leaf) (r .end))) (edge (step (tableOf (now (table .entry))) s endStep)) ⌝ }
+{
+    let t = step(table, s, END);
+    if t == 0 {
+        return r;
+    }
+    crate::read::accept_at_end(leaves::leaf_of(table, t), k, r)
 }
 
 // The last record of the walk of a text over a legal table's words.
@@ -24,9 +41,12 @@ fn walk(table: &[u16], text: &[u8]) -> Record
     requires { ⌜ refusal (now table) ≡ 0 ⌝ }
     ensures { λ q. ⌜ recorded (q .leaf) (q .end) ≡ readTable (tableOf (now (table .entry))) (now (text .entry)) ⌝ }
 {
-    let mut r = Record { leaf: 255, end: 0 };
+    let mut r = Record {
+        leaf: NO_LEAF,
+        end: 0,
+    };
     let mut s = words::table::start(table);
-    if s == 65535 {
+    if s == NONE {
         return r;
     }
     if s == 0 {
@@ -34,8 +54,7 @@ fn walk(table: &[u16], text: &[u8]) -> Record
     }
     let mut k: usize = 0;
     while k < text.len() {
-        let leaf = leaves::leaf_of(table, s);
-        r = crate::read::accepted(leaf, k, r);
+        r = mark_at(table, s, k, r);
         let b = crate::read::byte(text, k);
         let t = step(table, s, b);
         if t == 0 {
@@ -44,14 +63,7 @@ fn walk(table: &[u16], text: &[u8]) -> Record
         s = t;
         k += 1;
     }
-    let leaf = leaves::leaf_of(table, s);
-    r = crate::read::accepted(leaf, k, r);
-    let t = step(table, s, 256);
-    if t == 0 {
-        return r;
-    }
-    let last = leaves::leaf_of(table, t);
-    crate::read::accept_at_end(last, k, r)
+    ended(table, s, k, mark_at(table, s, k, r))
 }
 
 // The reading of a text by a table, or 1 to 7.

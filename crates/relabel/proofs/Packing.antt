@@ -5,22 +5,23 @@ use mathlib.Core.Bool.{true}
 use mathlib.Core.List.{List, [], _∷_, _++_}
 use mathlib.Core.Option.{Option, none, Option·getD}
 use mathlib.Core.Logic.{_⊎_, inl, inr, ⊎-elim}
-use Prim.Native.Nat.{ℕ, _+_, _*_, _≤_, _<_}
+use Prim.Native.Nat.{ℕ, _+_, _-_, _≤_, _<_}
 use native.Mathlib.Nat.{not-suc-le-zero, eq-or-lt-of-le}
 use native.Mathlib.Omega.{arith}
-use lib.ListN.{length, getD, set, drop, length-map, length-append, length-set, List·getD-append}
-use lib.Seq.{getD-append-seam, getD-set-same, getD-set-other}
+use borrow.Author.Tests.{lt-ltb}
+use lib.ListN.{length, getD, set, drop, replicate, length-map, length-append, length-set, length-replicate, List·getD-append}
+use lib.Seq.{sets, length-sets, getD-append-seam, getD-set-same}
 use Rattle.graph_rules.specs.Layout.{stepCount, noState, rowWords, marksPlace, graphPlace, graphSize, noLeaf, marksWord}
-use Rattle.graph_rules.specs.Graph.{State, Graph, blank, stateOf, to, acceptOf, earlyOf, orNone, graphFrom, graphFits, graphBuffer}
+use Rattle.graph_rules.specs.Graph.{State, Graph, blank, stateOf, to, acceptOf, earlyOf, orNone, graphFrom, graphFits, writtenOn}
 use Rattle.graph_rules.specs.Build.{renamed, relabel}
 use Rattle.graph_rules.proofs.Fits.{Fits}
 use Rattle.graph_rules.proofs.Flat.{from-to}
 use Rattle.graph_rules.proofs.Rename.{led, relabel-to, relabel-accept, relabel-early}
 use Rattle.graph_rules.proofs.Taken.{taken-few, taken-long}
-use Rattle.relabel.specs.Names.{namesOf, Moved, Zeroed}
+use Rattle.relabel.specs.Names.{namesOf, Moved}
 use Rattle.words.proofs.GraphWords.{accept-is, early-is}
 use Rattle.words.proofs.Buffers.{same-after, written}
-use Rattle.relabel.proofs.Rows.{renamed-is}
+use Rattle.relabel.proofs.Rows.{renamed-is, sets-away, zeros-within}
 
 -- row i is that of a state, renamed
 pub record Row (names : List ℕ) (st : State) (i : ℕ) (w : List ℕ) : Type 0 where
@@ -47,7 +48,7 @@ module _ (names : List ℕ) (w₀ : List ℕ) where
       record { len = p .len; rows = p .rows; others = λ i h. p .others i (⊎-elim (λ l. inl l) (λ l. inr (omega arith)) h) }
 
   module _ (taken : graphFits w₀ ≡ true) (rest : List State) (s : ℕ) (h : s < getD w₀ 0 0) (few : length rest ≤ s) (v w : List ℕ)
-      (p : Packed names rest s w₀ v) (m : Moved names s (length rest) v w) where
+      (p : Packed names rest s w₀ v) (m : Moved names s (length rest) rowWords v w) where
     abbrev k : ℕ
     k = length rest
 
@@ -63,12 +64,12 @@ module _ (names : List ℕ) (w₀ : List ℕ) where
     new-row =
         record {
           targets = λ c b.
-              m .targets c b ∙ renamed-is names (getD v (graphPlace s c) 0)
+              m .words c (omega arith) ∙ (rw (lt-ltb c stepCount b)) ∙ renamed-is names (getD v (graphPlace s c) 0)
               ∙ ap (λ (o : Option ℕ). Option·getD (led (namesOf names) o) noState) (ap (orNone noState) (before c) ∙ sym (from-to w₀ (taken-long w₀ taken) s h c b));
           marks =
               let a = accept-is w₀ taken s h in
               let b = early-is w₀ taken s h in
-              m .marks ∙ before marksPlace ∙ omega arith;
+              m .words marksPlace (omega arith) ∙ before marksPlace ∙ omega arith;
         }
 
     old-row : (i : ℕ) → i < k → Row names (getD all i blank) i w
@@ -94,58 +95,68 @@ module _ (names : List ℕ) (w₀ : List ℕ) where
               ⊎-elim (λ l. m .others i (inl (omega arith)) ∙ p .others i (inl l)) (λ l. m .others i (inr (omega arith)) ∙ p .others i (inr (omega arith))) o;
         }
 
--- ---- all rows have been passed, the vacated ones are zero, and count and root are written
+-- ---- all rows have been passed, the vacated ones become zero, and count and root are written
 
 module _ (names : List ℕ) (w₀ : List ℕ) (taken : graphFits w₀ ≡ true) (rest : List State) (root : ℕ)
     (fits : Fits noLeaf (getD w₀ 0 0) (relabel (namesOf names) rest root)) (few : length rest ≤ getD w₀ 0 0)
-    (v w : List ℕ) (p : Packed names rest (getD w₀ 0 0) w₀ v) (z : Zeroed (graphPlace (length rest) 0) (graphPlace (getD w₀ 0 0) 0) v w) where
+    (w : List ℕ) (p : Packed names rest (getD w₀ 0 0) w₀ w) where
   abbrev n : ℕ
   n = getD w₀ 0 0
 
   abbrev new : Graph
   new = relabel (namesOf names) rest root
 
-  abbrev final : List ℕ
-  final = set (set w 0 (length rest)) 1 (new .root)
+  abbrev head : List ℕ
+  head = length rest ∷ (new .root ∷ [])
 
-  long : graphSize n ≤ length w
-  long = let a = p .len in let b = z .len in omega (arith, taken-long w₀ taken)
+  abbrev zeros : List ℕ
+  zeros = replicate (graphPlace n 0 - graphPlace (length rest) 0) 0
 
-  final-length : length final ≡ length w
-  final-length = length-set (set w 0 (length rest)) 1 (new .root) ∙ length-set w 0 (length rest)
+  abbrev zeroed : List ℕ
+  zeroed = sets w (graphPlace (length rest) 0) zeros
 
-  -- past the root the words are those before
-  past : (i : ℕ) → 2 ≤ i → getD final i 0 ≡ getD w i 0
-  past i h =
-      getD-set-other (set w 0 (length rest)) 1 i (new .root) 0 (λ q. let e : i ≡ 1 = q in omega arith)
-      ∙ getD-set-other w 0 i (length rest) 0 (λ q. let e : i ≡ 0 = q in omega arith)
+  long : graphSize n ≤ length zeroed
+  long = let a = p .len in omega (arith, taken-long w₀ taken, length-sets w (graphPlace (length rest) 0) zeros)
 
-  kept-row : (i : ℕ) → i < length rest → Row names (getD rest i blank) i final
+  -- past the root, the words before the zeros and after them are those before
+  past : (i : ℕ) → 2 ≤ i → (i < graphPlace (length rest) 0) ⊎ (graphPlace n 0 ≤ i) → getD (sets zeroed 0 head) i 0 ≡ getD w i 0
+  past i h o =
+      let z = length-replicate {A = ℕ} (graphPlace n 0 - graphPlace (length rest) 0) 0 in
+      sets-away zeroed 0 head i (inr h)
+      ∙ sets-away w (graphPlace (length rest) 0) zeros i (⊎-elim (λ l. inl l) (λ l. inr (omega arith)) o)
+
+  kept-row : (i : ℕ) → i < length rest → Row names (getD rest i blank) i (sets zeroed 0 head)
   kept-row i h =
-      row-stays names (getD rest i blank) i v final (λ c b. past (graphPlace i c) (omega arith) ∙ z .others (graphPlace i c) (inl (omega arith))) (p .rows i h)
+      row-stays names (getD rest i blank) i w (sets zeroed 0 head) (λ c b. past (graphPlace i c) (omega arith) (inl (omega arith))) (p .rows i h)
 
   size : length (new .states) ≡ length rest
   unfolding relabel
   size = length-map rest (renamed (namesOf names))
 
-  after : drop (graphSize n) final ≡ drop (graphSize n) w₀
+  after : drop (graphSize n) (sets zeroed 0 head) ≡ drop (graphSize n) w₀
   after =
-      same-after (graphSize n) w₀ final (final-length ∙ z .len ∙ p .len)
-      (λ i h. past i (omega arith) ∙ z .others i (inr (omega arith)) ∙ p .others i (inr (omega arith)))
+      same-after (graphSize n) w₀ (sets zeroed 0 head)
+      (length-sets zeroed 0 head ∙ length-sets w (graphPlace (length rest) 0) zeros ∙ p .len)
+      (λ i h. past i (omega arith) (inr (omega arith)) ∙ p .others i (inr (omega arith)))
 
-  pub packed-all : set (set w 0 (length rest)) 1 (relabel (namesOf names) rest root .root)
-      ≡ graphBuffer (getD w₀ 0 0) (relabel (namesOf names) rest root) ++ drop (graphSize (getD w₀ 0 0)) w₀
+  pub packed-all :
+      sets (sets w (graphPlace (length rest) 0) (replicate (graphPlace (getD w₀ 0 0) 0 - graphPlace (length rest) 0) 0)) 0
+      (length rest ∷ (relabel (namesOf names) rest root .root ∷ []))
+      ≡ writtenOn (getD w₀ 0 0) (relabel (namesOf names) rest root) w₀
   packed-all =
       let l = long in
       let e = size in
-      let fl = final-length in
+      let hl = length-sets zeroed 0 head in
       rw (← after)
-      (written noLeaf n (omega arith) (taken-few w₀ taken) new fits final (omega arith)
-      (getD-set-other (set w 0 (length rest)) 1 0 (new .root) 0 (λ q. let y : 0 ≡ 1 = q in omega arith) ∙ getD-set-same w 0 (length rest) 0 (omega arith) ∙ sym e)
-      (getD-set-same (set w 0 (length rest)) 1 (new .root) 0 (let y = length-set w 0 (length rest) in omega arith))
+      (written noLeaf n (omega arith) (taken-few w₀ taken) new fits (sets zeroed 0 head) (omega arith)
+      (sets-away (set zeroed 0 (length rest)) 1 (new .root ∷ []) 0 (inl (omega arith)) ∙ getD-set-same zeroed 0 (length rest) 0 (omega arith) ∙ sym e)
+      (getD-set-same (set zeroed 0 (length rest)) 1 (new .root) 0 (let y = length-set zeroed 0 (length rest) in omega arith))
       (λ i c h b. kept-row i (omega arith) .targets c b ∙ ap (λ (o : Option ℕ). Option·getD o noState) (sym (relabel-to (namesOf names) rest root i c)))
       (λ i h.
       let a = relabel-accept (namesOf names) rest root i in
       let b = relabel-early (namesOf names) rest root i in
       kept-row i (omega arith) .marks ∙ rw (a, b))
-      (λ i h k. past i (omega arith) ∙ z .zeros i (omega arith) (omega arith)))
+      (λ i h k.
+      sets-away zeroed 0 head i (inr (omega arith))
+      ∙ zeros-within (graphPlace n 0 - graphPlace (length rest) 0) w (graphPlace (length rest) 0) i
+      (let y = length-sets w (graphPlace (length rest) 0) zeros in omega arith) (omega arith) (omega arith)))

@@ -16,7 +16,7 @@ use Rattle.lists.proofs.Members.{members, members-in, members-out, select-count
 use Rattle.lists.proofs.Numbering.{number-count}
 use Rattle.lists.proofs.Worklist.{count-take-in, count-take-out}
 use Rattle.graph_rules.specs.Table.{tableOf, size, refusal}
-use Rattle.graph_rules.specs.Graph.{State, Graph, stateWords, graphWords, graphBuffer}
+use Rattle.graph_rules.specs.Graph.{State, Graph, stateWords, graphWords, graphBuffer, writtenOn}
 use Rattle.graph_rules.specs.Build.{reached, renamed, relabel, restrict, firstState, wholeGraph}
 use Rattle.graph_rules.proofs.Shape.{size-is}
 use Rattle.graph_rules.specs.Layout.{mostStates, rowWords, graphPlace, graphSize}
@@ -34,7 +34,7 @@ renamedRow w start s = stateWords (renamed (numberFrom 0 (reached (tableOf w) st
 unfoldable pub rowsBefore : List ℕ → ℕ → List Bool → ℕ → List ℕ
 rowsBefore w start set s = flatMap (renamedRow w start) (members set s)
 
--- k rows are written from word 2 on, those of the members before s; the others are as found
+-- k rows are written from word 2 on, those of the members before s; the others are unchanged
 pub record Written (w : List ℕ) (start : ℕ) (set : List Bool) (found out : List ℕ) (k s : ℕ) : Type 0 where
   pub small : k ≤ s
   pub number : k ≡ count (take s set)
@@ -148,7 +148,7 @@ module _ (w : List ℕ) (legal : refusal w ≡ 0) (start : ℕ) (low : start < s
       ∙ ap (flatMap (λ (x : State). stateWords (renamed names x))) (sym chosen)
       ∙ sym (flatMap-map stateWords (renamed names) (select keep (map (firstState (tableOf w)) (below (size (tableOf w))))))
 
-  pub states-are : length (graph .states) ≡ count (take (states w) set)
+  states-are : length (graph .states) ≡ count (take (states w) set)
   unfolding restrict relabel wholeGraph
   states-are =
       let whole = map (firstState (tableOf w)) (below (size (tableOf w))) in
@@ -167,7 +167,7 @@ module _ (w : List ℕ) (legal : refusal w ≡ 0) (start : ℕ) (low : start < s
   -- with the words in front and the zeros after them
   pub written-all : (buffer out : List ℕ) (k : ℕ) (head root : ℕ) → head ≡ count (take (states w) set) → root ≡ count (take start set)
       → graphSize (states w) ≤ length buffer → Written w start set (sets buffer 0 (head ∷ (root ∷ []))) out k (states w)
-      → sets out (graphPlace k 0) (replicate (graphPlace (states w) 0 - graphPlace k 0) 0) ≡ graphBuffer (states w) graph ++ drop (graphSize (states w)) buffer
+      → sets out (graphPlace k 0) (replicate (graphPlace (states w) 0 - graphPlace k 0) 0) ≡ writtenOn (states w) graph buffer
   unfolding graphBuffer graphWords
   written-all buffer out k head root a b room r =
       let rows = rowsBefore w start set (states w) in

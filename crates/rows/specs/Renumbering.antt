@@ -2,7 +2,7 @@
 use mathlib.Core.Bool.{true, false}
 use mathlib.Core.List.{List, [], _∷_, _++_, map}
 use mathlib.Core.Option.{Option·getD}
-use Prim.Native.Nat.{ℕ, _+_, _*_}
+use Prim.Native.Nat.{ℕ}
 use lib.Dec.{eqb}
 use lib.ListN.{getD}
 use Rattle.graph_rules.specs.Table.{Table, rowOf}
@@ -14,10 +14,10 @@ use Rattle.graph_rules.specs.Layout.{noState, noLeaf, marksWord}
 abbrev pub firstGraph : Table → ℕ → Graph
 firstGraph t s = restrict (reached t s) (wholeGraph t s)
 
--- a target's word: 65,535 where the step leads to state 0 and is dropped, else the target's new number
+-- a target's word: none where the step leads to state 0 and is dropped, else the target's new number
 unfoldable pub newTarget : List ℕ → ℕ → ℕ
 newTarget numbers u = elim (eqb u 0) [ true ↦ noState | false ↦ getD numbers u 0 ]
 
--- the 257 targets, and the marks word: the state's leaf, and no early leaf
+-- the targets, and the marks word: the state's leaf, and no early leaf
 unfoldable pub newRow : Table → List ℕ → ℕ → List ℕ
 newRow t numbers s = map (newTarget numbers) (rowOf t s .steps) ++ ((marksWord (Option·getD (leafOf t s) noLeaf) noLeaf) ∷ [])

@@ -3,25 +3,26 @@ use mathlib.Core.Path.{_≡_, refl, sym, ap, subst, _∙_}
 use mathlib.Core.Bool.{true, false}
 use mathlib.Core.List.{List, [], _∷_, _++_, map}
 use mathlib.Core.Logic.{_⊎_, inl, inr}
-use Prim.Native.Nat.{ℕ, zero, suc, _+_, _-_, _*_, _≤_, _<_}
+use Prim.Native.Nat.{ℕ, zero, suc, _+_, _-_, _≤_, _<_}
 use native.Mathlib.Omega.{arith}
 use native.Mathlib.Nat.{not-suc-le-zero, le-of-suc-le-suc}
-use borrow.Author.Tests.{eqb-true, eq-eqb, ne-eqb, leb-true, ltb-true, ltb-false}
+use borrow.Author.Tests.{eqb-true, eq-eqb, ne-eqb, leb-true, ltb-true}
 use lib.Dec.{eqb, leb, ltb}
 use lib.Seq.{getD-drop}
 use lib.ListN.{length, getD, drop, replicate, take-append-drop}
 use Rattle.lists.proofs.Bools.{Is, yes-is, no-is, is, and-both, or-cases, lt-or-le}
 use Rattle.lists.proofs.Elements.{all-at}
 use Rattle.lists.proofs.Pieces.{pieces-length, pieces-at}
-use Rattle.graph_rules.specs.Graph.{State, Graph, stateOf, to}
-use Rattle.classes.specs.Classes.{Class, comparisons, cost}
-use Rattle.mask_store.specs.Masks.{numberOf}
-use Rattle.mask_store.proofs.Numbers.{number-most}
+use Rattle.graph_rules.specs.Graph.{Graph, stateOf, to}
+use Rattle.classes.specs.Classes.{Class, comparisons}
 use Rattle.edges.specs.Edges.{classTo}
-use Rattle.plan_rules.specs.Plan.{Way, bySelf, byTests, byMask, base, byTable, wayTo, wayWord, edgeWords, planRow, planSize}
+use Rattle.plan_rules.specs.declared.Way.{Way}
+use Rattle.plan_rules.specs.declared.Way.the-variants.{BySelf, ByTests, ByMask}
+use Rattle.plan_rules.specs.Plan.{base, tableWord, rowSize, ownPlace, edgePlace, byTable, wayTo, wayWord, edgeWords, planRow, planSize}
 use Rattle.plan_rules.specs.Run.{selfOf, saysTable, along, ledBy, edgeHeld, rowHeld, rowsOf}
+use Rattle.plan_rules.proofs.Edges.{no-table-word}
 use Rattle.plan_rules.proofs.RunIsWalk.{base-sane, row-length, row-at, rows-are}
-use Rattle.runner.specs.Prepared.{targetsOf, testsAt, Prepared, PlanOn}
+use Rattle.runner.specs.Prepared.{targetsOf, testsAt, edgeAt, Prepared, PlanOn}
 
 three : (l : List ℕ) → length l ≡ 3 → drop 1 l ≡ getD l 1 0 ∷ getD l 2 0 ∷ []
 three [] e = absurd (omega arith)
@@ -48,25 +49,10 @@ module _ (f : ℕ → ℕ) (m : ℕ) where
   padded-out (u ∷ ts) (suc j) h = padded-out ts j (le-of-suc-le-suc h)
 
 -- what an edge's word says
-few-way : (all : List Class) (w : Way) (c : Class) → length all ≤ 64 → wayWord all w c < 65535
-few-way all bySelf c l = omega arith
-few-way all byTests c l = omega arith
-few-way all byMask c l = let h : numberOf all c ≤ length all = number-most all c in omega arith
-
-one-cost : (all : List Class) (st : State) (s u : ℕ) → wayWord all (wayTo base st s u) (classTo st u) ≡ 1 → cost (classTo st u) ≤ 2
-unfolding wayTo
-one-cost all st s u e = go (is (eqb u s)) (is (ltb 2 (cost (classTo st u))))
-  where
-    go : Is (eqb u s) → Is (ltb 2 (cost (classTo st u))) → cost (classTo st u) ≤ 2
-    go (yes-is q) x = absurd (zero-one (rw q at e))
-      where
-        zero-one : _≡_ {A = ℕ} 0 1 → ⊥
-        zero-one e = omega arith
-    go (no-is q) (yes-is x) = absurd (two-one _ (rw (q, x) at e))
-      where
-        two-one : (n : ℕ) → suc (suc n) ≡ 1 → ⊥
-        two-one n e = omega arith
-    go (no-is q) (no-is x) = ltb-false _ _ x
+one-tests : (all : List Class) (w : Way) (c : Class) → wayWord all w c ≡ 1 → w ≡ ByTests
+one-tests all BySelf c e = absurd (omega arith)
+one-tests all ByTests c e = refl
+one-tests all ByMask c e = absurd (omega arith)
 
 module _ (g : Graph) (words : List ℕ) (p : PlanOn g words) (s : ℕ) (h : s < length (g .states)) where
   abbrev row : List ℕ
@@ -85,35 +71,35 @@ module _ (g : Graph) (words : List ℕ) (p : PlanOn g words) (s : ℕ) (h : s < 
       ∙ rows-are base base-sane (p .all) g (drop (planSize base g) words))
       ∙ row-at base base-sane (p .all) g s h
 
-  row-word : (j : ℕ) → j < 3 → getD row j 0 ≡ getD words (3 * s + j) 0
+  row-word : (j : ℕ) → j < rowSize base → getD row j 0 ≡ getD words (ownPlace base s + j) 0
   unfolding rowsOf
-  row-word j l = pieces-at 3 (length (g .states)) words s j 0 h l
+  row-word j l = pieces-at (rowSize base) (length (g .states)) words s j 0 h l
 
-  row-edges : drop 1 row ≡ getD words (3 * s + 1) 0 ∷ getD words (3 * s + 2) 0 ∷ []
+  row-edges : drop 1 row ≡ getD words (edgePlace base s 0) 0 ∷ getD words (edgePlace base s 1) 0 ∷ []
   row-edges =
       three row (ap length row-is ∙ row-length base base-sane (p .all) g s)
-      ∙ ap (λ (x : ℕ). x ∷ getD row 2 0 ∷ []) (row-word 1 (omega arith)) ∙ ap (λ (x : ℕ). getD words (3 * s + 1) 0 ∷ x ∷ []) (row-word 2 (omega arith))
+      ∙ ap (λ (x : ℕ). x ∷ getD row 2 0 ∷ []) (row-word 1 (omega arith)) ∙ ap (λ (x : ℕ). getD words (edgePlace base s 0) 0 ∷ x ∷ []) (row-word 2 (omega arith))
 
   row-held : rowHeld 64 row ≡ true
   unfolding rowsOf
-  row-held = all-at (rowHeld 64) (rowsOf base g words) s [] (p .held) (subst (λ (m : ℕ). s < m) (sym (pieces-length 3 (length (g .states)) words)) h)
+  row-held = all-at (rowHeld 64) (rowsOf base g words) s [] (p .held) (subst (λ (m : ℕ). s < m) (sym (pieces-length (rowSize base) (length (g .states)) words)) h)
 
-  pub self-word : selfOf row ≡ getD words (3 * s) 0
+  pub self-word : selfOf row ≡ getD words (ownPlace base s) 0
   self-word = row-word 0 (omega arith) ∙ ap (λ (x : ℕ). getD words x 0) (omega arith)
 
-  pub self-few : getD words (3 * s) 0 ≤ 64
+  pub self-few : getD words (ownPlace base s) 0 ≤ 64
   self-few = subst (λ (x : ℕ). x ≤ 64) self-word (leb-true _ _ (and-both (leb (selfOf row) 64) _ row-held .0))
 
   -- ---- a table
 
-  pub led-table : (tables : List ℕ) (b : ℕ) → getD words (3 * s + 1) 0 ≡ 65535 → ledBy g row tables s b ≡ to g s b
+  pub led-table : (tables : List ℕ) (b : ℕ) → getD words (edgePlace base s 0) 0 ≡ tableWord → ledBy g row tables s b ≡ to g s b
   unfolding ledBy
   led-table tables b e = let t : saysTable row ≡ true = eq-eqb _ _ (row-word 1 (omega arith) ∙ e) in rw (t, ledBy)
 
   -- ---- edges
 
-  module _ (plain : getD words (3 * s + 1) 0 ≡ 65535 → ⊥) where
-    pub led-edges : (tables : List ℕ) (b : ℕ) → ledBy g row tables s b ≡ along tables (stateOf g s) ts (getD words (3 * s + 1) 0 ∷ getD words (3 * s + 2) 0 ∷ []) b
+  module _ (plain : getD words (edgePlace base s 0) 0 ≡ tableWord → ⊥) where
+    pub led-edges : (tables : List ℕ) (b : ℕ) → ledBy g row tables s b ≡ along tables (stateOf g s) ts (getD words (edgePlace base s 0) 0 ∷ getD words (edgePlace base s 1) 0 ∷ []) b
     unfolding ledBy
     led-edges tables b =
         let t : saysTable row ≡ false = ne-eqb _ _ (λ e. plain (sym (row-word 1 (omega arith)) ∙ e)) in
@@ -124,27 +110,27 @@ module _ (g : Graph) (words : List ℕ) (p : PlanOn g words) (s : ℕ) (h : s < 
     unfolding planRow edgeWords
     no-table = go (is (byTable base ts))
       where
-        first : byTable base ts ≡ true → getD (planRow base (p .all) g s) 1 0 ≡ 65535
+        first : byTable base ts ≡ true → getD (planRow base (p .all) g s) 1 0 ≡ tableWord
         first q = rw q
 
         go : Is (byTable base ts) → byTable base ts ≡ false
         go (no-is q) = q
         go (yes-is q) = absurd (plain (sym (row-word 1 (omega arith)) ∙ ap (λ (r : List ℕ). getD r 1 0) row-is ∙ first q))
 
-    edge-word : (j : ℕ) → j < 2 → getD words (3 * s + suc j) 0 ≡ getD (map word ts ++ replicate (2 - length ts) 0) j 0
+    edge-word : (j : ℕ) → j < base .edges → getD words (edgePlace base s j) 0 ≡ getD (map word ts ++ replicate (base .words - length ts) 0) j 0
     unfolding planRow edgeWords
     edge-word j l =
-        let e : getD (planRow base (p .all) g s) (suc j) 0 ≡ getD (map word ts ++ replicate (2 - length ts) 0) j 0 = rw no-table in
+        let e : getD (planRow base (p .all) g s) (suc j) 0 ≡ getD (map word ts ++ replicate (base .words - length ts) 0) j 0 = rw no-table in
         sym (row-word (suc j) (omega arith)) ∙ ap (λ (r : List ℕ). getD r (suc j) 0) row-is ∙ e
 
-    pub edge-absent : (j : ℕ) → j < 2 → length ts ≤ j → getD words (3 * s + suc j) 0 ≡ 0
-    edge-absent j l a = edge-word j l ∙ padded-out word (2 - length ts) ts j a
+    pub edge-absent : (j : ℕ) → j < base .edges → length ts ≤ j → getD words (edgePlace base s j) 0 ≡ 0
+    edge-absent j l a = edge-word j l ∙ padded-out word (base .words - length ts) ts j a
 
-    pub edge-few : (j : ℕ) → j < 2 → getD words (3 * s + suc j) 0 < 66
+    pub edge-few : (j : ℕ) → j < base .edges → getD words (edgePlace base s j) 0 < 66
     edge-few j l = go (lt-or-le j (length ts)) (or-cases (ltb w 66) _ held)
       where
         w : ℕ
-        w = getD words (3 * s + suc j) 0
+        w = getD words (edgePlace base s j) 0
 
         held : edgeHeld 64 w ≡ true
         held =
@@ -152,21 +138,21 @@ module _ (g : Graph) (words : List ℕ) (p : PlanOn g words) (s : ℕ) (h : s < 
             ap (edgeHeld 64) (sym (row-word (suc j) (omega arith)) ∙ ap (λ (x : ℕ). getD row x 0) z ∙ sym (getD-drop 1 row j 0))
             ∙ all-at (edgeHeld 64) (drop 1 row) j 0 (and-both (leb (selfOf row) 64) _ row-held .1) (rw row-edges l)
 
-        go : (j < length ts) ⊎ (length ts ≤ j) → (ltb w 66 ≡ true) ⊎ (eqb w 65535 ≡ true) → w < 66
+        go : (j < length ts) ⊎ (length ts ≤ j) → (ltb w 66 ≡ true) ⊎ (eqb w tableWord ≡ true) → w < 66
         go a (inl b) = ltb-true _ _ b
         go (inl a) (inr b) =
-            let e : w ≡ word (getD ts j 0) = edge-word j l ∙ padded-in word (2 - length ts) ts j a in
-            let k : word (getD ts j 0) < 65535 = few-way (p .all) (wayTo base (stateOf g s) s (getD ts j 0)) (classTo (stateOf g s) (getD ts j 0)) (p .few) in
-            let z : w ≡ 65535 = eqb-true _ _ b in
+            let e : w ≡ word (getD ts j 0) = edge-word j l ∙ padded-in word (base .words - length ts) ts j a in
+            let k : word (getD ts j 0) < tableWord = no-table-word (p .all) (p .few) (wayTo base (stateOf g s) s (getD ts j 0)) (classTo (stateOf g s) (getD ts j 0)) in
+            let z : w ≡ tableWord = eqb-true _ _ b in
             absurd (omega arith)
         go (inr a) (inr b) = let e = edge-absent j l a in omega arith
 
     module _ (ends tests : List ℕ) (made : Prepared g ends tests) where
-      pub edge-compared : (j : ℕ) → j < 2 → getD words (3 * s + suc j) 0 ≡ 1 → testsAt tests (2 * s + j) ≡ comparisons (classTo (stateOf g s) (getD ts j 0))
+      pub edge-compared : (j : ℕ) → j < base .edges → getD words (edgePlace base s j) 0 ≡ 1 → testsAt tests (edgeAt s j) ≡ comparisons (classTo (stateOf g s) (getD ts j 0))
       edge-compared j l e = go (lt-or-le j (length ts))
         where
-          go : (j < length ts) ⊎ (length ts ≤ j) → testsAt tests (2 * s + j) ≡ comparisons (classTo (stateOf g s) (getD ts j 0))
+          go : (j < length ts) ⊎ (length ts ≤ j) → testsAt tests (edgeAt s j) ≡ comparisons (classTo (stateOf g s) (getD ts j 0))
           go (inl a) =
               made .tests-are s j h l no-table a
-              (one-cost (p .all) (stateOf g s) s (getD ts j 0) (sym (padded-in word (2 - length ts) ts j a) ∙ sym (edge-word j l) ∙ e))
+              (one-tests (p .all) (wayTo base (stateOf g s) s (getD ts j 0)) (classTo (stateOf g s) (getD ts j 0)) (sym (padded-in word (base .words - length ts) ts j a) ∙ sym (edge-word j l) ∙ e))
           go (inr a) = let z = edge-absent j l a in absurd (omega arith)

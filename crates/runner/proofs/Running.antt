@@ -1,51 +1,30 @@
--- One turn of the run of a text by a plan, by the numbers that the code holds: the self run, the marks, the byte that leads on or the end step.
+-- One turn of the run of a text by a plan: the self run, the marks, the byte that leads on or the end step.
 -- Assumes nothing.
 use mathlib.Core.Path.{_≡_, sym, ap, subst, _∙_}
 use mathlib.Core.Bool.{true, false}
 use mathlib.Core.List.{List, []}
 use mathlib.Core.Option.{Option, none, some}
-use mathlib.Core.Logic.{⊎-elim}
-use Prim.Native.Nat.{ℕ, suc, _+_, _*_, _/_, _%_, _≤_, _<_}
+use Prim.Native.Nat.{ℕ, suc, _+_, _≤_, _<_}
 use native.Mathlib.Omega.{arith}
 use native.Mathlib.Numerals.{add-one}
 use lib.ListN.{length, getD, drop, drop-of-length-le}
 use lib.Seq.{drop-cons}
 use Rattle.lists.specs.Lists.{pieces}
-use Rattle.graph_rules.specs.Graph.{Graph, to, acceptOf, earlyOf, orNone, graphFrom, graphFits}
+use Rattle.graph_rules.specs.Layout.{endStep, noState}
+use Rattle.graph_rules.specs.Graph.{Graph, to, acceptOf, earlyOf, orNone, graphFrom}
 use Rattle.graph_rules.specs.Read.{Reading, late, mark, onward}
-use Rattle.graph_rules.proofs.Flat.{from-length, from-to, from-accept, from-early}
+use Rattle.graph_rules.proofs.Flat.{from-length}
 use Rattle.graph_rules.proofs.Nones.{or-none, or-number}
-use Rattle.graph_rules.proofs.Taken.{taken-long, taken-target}
-use Rattle.plan_rules.specs.Plan.{base, planSize}
+use Rattle.plan_rules.specs.Plan.{base, rowSize, ownPlace, planSize}
 use Rattle.plan_rules.specs.Run.{selfOf, selfTakes, ledBy, runFrom, rowsOf}
 use Rattle.plan_rules.proofs.RunIsWalk.{empty-runs}
 use Rattle.runner.specs.Prepared.{PlanOn}
 use Rattle.runner.proofs.SelfRun.{self-passes}
 use Rattle.runner.proofs.PlanRow.{self-word, self-few}
 
--- ---- the end step
-
 -- what the end step from state s records, k bytes passed
-abbrev pub ends : Graph → ℕ → ℕ → Reading → Reading
-ends g s k q = onward q (λ u. late (acceptOf g u) (suc k) q) (to g s 256)
-
-module _ (graph : List ℕ) (legal : graphFits graph ≡ true) (s k : ℕ) (q : Reading) (h : s < getD graph 0 0) (t : ℕ) (et : t ≡ getD graph (2 + 258 * s + 256) 0) where
-  target : (o : Option ℕ) → orNone 65535 t ≡ o → ends (graphFrom graph) s k q ≡ onward q (λ u. late (acceptOf (graphFrom graph) u) (suc k) q) o
-  target o e =
-      ap (onward q (λ u. late (acceptOf (graphFrom graph) u) (suc k) q))
-      (from-to graph (taken-long graph legal) s h 256 (omega arith) ∙ ap (orNone 65535) (sym et) ∙ e)
-
-  pub no-end : t ≡ 65535 → q ≡ ends (graphFrom graph) s k q
-  no-end e = sym (target none (or-none 65535 t e))
-
-  pub end-below : (t ≡ 65535 → ⊥) → t < getD graph 0 0
-  end-below n = ⊎-elim (λ x. subst (λ (y : ℕ). y < getD graph 0 0) (sym et) x) (λ x. absurd (n (et ∙ x))) (taken-target graph legal s 256 h (omega arith))
-
-  pub end-marks : (t ≡ 65535 → ⊥) → (v : ℕ) → v ≡ getD graph (2 + 258 * t + 257) 0 → late (orNone 255 (v % 256)) (suc k) q ≡ ends (graphFrom graph) s k q
-  end-marks n v ev =
-      ap (λ (x : ℕ). late (orNone 255 (x % 256)) (suc k) q) ev
-      ∙ ap (λ (o : Option ℕ). late o (suc k) q) (sym (from-accept graph (taken-long graph legal) t (end-below n)))
-      ∙ sym (target (some t) (or-number 65535 t n))
+abbrev ends : Graph → ℕ → ℕ → Reading → Reading
+ends g s k q = onward q (λ u. late (acceptOf g u) (suc k) q) (to g s endStep)
 
 -- ---- the run
 
@@ -68,42 +47,36 @@ module _ (graph words tables text : List ℕ) where
   unfolding rowsOf
   no-states e =
       let z : length (g .states) ≡ 0 = from-length graph ∙ e in
-      sym (ap (λ (m : ℕ). runFrom g (pieces 3 m words) tables (g .root) 0 none text) z ∙ empty-runs g z tables text)
+      sym (ap (λ (m : ℕ). runFrom g (pieces (rowSize base) m words) tables (g .root) 0 none text) z ∙ empty-runs g z tables text)
 
-  pub plan-long : planSize base g ≤ length words → 3 * getD graph 0 0 ≤ length words
-  plan-long h = let l : length (g .states) * 3 ≤ length words = h in omega (arith, from-length graph)
+  pub plan-long : planSize base g ≤ length words → ownPlace base (getD graph 0 0) ≤ length words
+  plan-long h = omega (arith, from-length graph)
 
-  module _ (legal : graphFits graph ≡ true) (p : PlanOn g words) (R : Reading) (s : ℕ) (here : s < getD graph 0 0) where
+  module _ (p : PlanOn g words) (R : Reading) (s : ℕ) (here : s < getD graph 0 0) where
     inside : s < length (g .states)
     inside = subst (λ (n : ℕ). s < n) (sym (from-length graph)) here
 
-    pub mask-few : getD words (3 * s) 0 ≤ 64
+    pub mask-few : getD words (ownPlace base s) 0 ≤ 64
     mask-few = self-few g words p s inside
 
-    -- k bytes passed before the self run, j after it; m the marks word, r the record before, q the one after
-    module _ (k j m : ℕ) (r q : Reading) (inv : rest s k r ≡ R) (l : k ≤ j) (within : j ≤ length text)
-        (passes : (i : ℕ) → i < j → k ≤ i → selfTakes tables (getD words (3 * s) 0) (getD text i 0) ≡ true)
-        (em : m ≡ getD graph (2 + 258 * s + 257) 0) (eq : q ≡ mark (orNone 255 (m / 256)) (orNone 255 (m % 256)) j r) where
+    -- k bytes passed before the self run, j after it; r the record before, q the one after
+    module _ (k j : ℕ) (r q : Reading) (inv : rest s k r ≡ R) (l : k ≤ j) (within : j ≤ length text)
+        (passes : (i : ℕ) → i < j → k ≤ i → selfTakes tables (getD words (ownPlace base s) 0) (getD text i 0) ≡ true)
+        (marked : q ≡ mark (earlyOf g s) (acceptOf g s) j r) where
       after : rest s j r ≡ R
       unfolding rest
       after = sym (self-passes g rows tables text s _ (self-word g words p s inside) k j r l within passes) ∙ inv
-
-      marked : mark (earlyOf g s) (acceptOf g s) j r ≡ q
-      marked =
-          let e : earlyOf g s ≡ orNone 255 (m / 256) = from-early graph (taken-long graph legal) s here ∙ ap (λ (x : ℕ). orNone 255 (x / 256)) (sym em) in
-          let a : acceptOf g s ≡ orNone 255 (m % 256) = from-accept graph (taken-long graph legal) s here ∙ ap (λ (x : ℕ). orNone 255 (x % 256)) (sym em) in
-          rw (e, a) (sym eq)
 
       pub run-ends : j ≡ length text → ends g s j q ≡ R
       unfolding rest
       run-ends d =
           let z : length text ≤ j = omega arith in
           let e : rest s j r ≡ ends g s j (mark (earlyOf g s) (acceptOf g s) j r) = rw (drop-of-length-le text z) in
-          ap (ends g s j) (sym marked) ∙ sym e ∙ after
+          ap (ends g s j) marked ∙ sym e ∙ after
 
-      module _ (more : j < length text) (stops : selfTakes tables (getD words (3 * s) 0) (getD text j 0) ≡ false)
-          (t : ℕ) (led : orNone 65535 t ≡ ledBy g (getD rows s []) tables s (getD text j 0)) where
-        turn : (o : Option ℕ) → orNone 65535 t ≡ o → onward q (λ u. rest u (suc j) q) o ≡ R
+      module _ (more : j < length text) (stops : selfTakes tables (getD words (ownPlace base s) 0) (getD text j 0) ≡ false)
+          (t : ℕ) (led : orNone noState t ≡ ledBy g (getD rows s []) tables s (getD text j 0)) where
+        turn : (o : Option ℕ) → orNone noState t ≡ o → onward q (λ u. rest u (suc j) q) o ≡ R
         unfolding rest
         turn o e =
             let f : selfTakes tables (selfOf (getD rows s [])) (getD text j 0) ≡ false =
@@ -111,11 +84,11 @@ module _ (graph words tables text : List ℕ) where
             let d : rest s j r ≡ onward (mark (earlyOf g s) (acceptOf g s) j r) (λ u. rest u (suc j) (mark (earlyOf g s) (acceptOf g s) j r)) (ledBy g (getD rows s []) tables s (getD text j 0)) =
             rw (drop-cons text j 0 more, f, runFrom) in
             ap (onward q (λ u. rest u (suc j) q)) (sym e ∙ led)
-            ∙ ap (λ (x : Reading). onward x (λ u. rest u (suc j) x) (ledBy g (getD rows s []) tables s (getD text j 0))) (sym marked)
+            ∙ ap (λ (x : Reading). onward x (λ u. rest u (suc j) x) (ledBy g (getD rows s []) tables s (getD text j 0))) marked
             ∙ sym d ∙ after
 
-        pub run-stops : t ≡ 65535 → q ≡ R
-        run-stops e = turn none (or-none 65535 t e)
+        pub run-stops : t ≡ noState → q ≡ R
+        run-stops e = turn none (or-none noState t e)
 
-        pub run-goes : (t ≡ 65535 → ⊥) → rest t (j + 1) q ≡ R
-        run-goes n = ap (λ (x : ℕ). rest t x q) (add-one j) ∙ turn (some t) (or-number 65535 t n)
+        pub run-goes : (t ≡ noState → ⊥) → rest t (j + 1) q ≡ R
+        run-goes n = ap (λ (x : ℕ). rest t x q) (add-one j) ∙ turn (some t) (or-number noState t n)

@@ -3,15 +3,16 @@ ghost use mathlib.Core.Path.{_≡_};
 ghost use Prim.Native.Nat.{_<_};
 ghost use lib.ListN.{length};
 ghost use Rattle.classes.specs.Classes.{inside, someHolds};
-ghost use Rattle.runner.specs.Prepared.{testsAt};
+ghost use Rattle.runner.specs.Prepared.{testsAt, edgesSize, testsSize};
+use crate::prepare::SLOT;
 
 // Whether one of the comparisons of edge e holds of the byte, however many there are.
 fn listed_hold(tests: &[u8], e: usize, byte: u8) -> bool
-    requires { ⌜ e < 2048 ⌝ }
-    requires { ⌜ length (now tests) ≡ 24576 ⌝ }
+    requires { ⌜ e < edgesSize ⌝ }
+    requires { ⌜ length (now tests) ≡ testsSize ⌝ }
     ensures { λ r. ⌜ r ≡ someHolds (testsAt (now (tests .entry)) e) byte ⌝ }
 {
-    let at = 12 * e;
+    let at = SLOT * e;
     let count = tests[at] as usize;
     classes::byte_class::some_holds(
         &tests[at + 1..at + 4],
@@ -35,12 +36,12 @@ fn in_range(first: u8, last: u8, byte: u8) -> bool
 
 // Whether one of the comparisons of edge e holds of the byte. Most edges have one range and no exception: a token's byte is then tested by two
 // comparisons and nothing else.
-pub fn edge_holds(tests: &[u8], e: usize, byte: u8) -> bool
-    requires { ⌜ e < 2048 ⌝ }
-    requires { ⌜ length (now tests) ≡ 24576 ⌝ }
+pub(crate) fn edge_holds(tests: &[u8], e: usize, byte: u8) -> bool
+    requires { ⌜ e < edgesSize ⌝ }
+    requires { ⌜ length (now tests) ≡ testsSize ⌝ }
     ensures { λ r. ⌜ r ≡ someHolds (testsAt (now (tests .entry)) e) byte ⌝ }
 {
-    let at = 12 * e;
+    let at = SLOT * e;
     if tests[at] == 1 {
         if tests[at + 7] == 0 {
             return in_range(tests[at + 1], tests[at + 4], byte);

@@ -4,6 +4,7 @@ ghost use mathlib.Core.Bool.{true, false};
 ghost use Prim.Native.Nat.{ℕ, _<_, _≤_, _+_, _*_};
 ghost use lib.ListN.{length, getD};
 ghost use Rattle.mask_store.specs.Masks.{maskHas};
+ghost use Rattle.plan_rules.specs.Plan.{base, ownPlace};
 ghost use Rattle.plan_rules.specs.Run.{selfTakes};
 
 // The first place from `from` on whose byte mask i does not have, or the text's length. The table and the bit are found once: a byte costs one
@@ -29,12 +30,12 @@ fn self_run(tables: &[u8; 2048], i: usize, text: &[u8], from: usize) -> usize
 
 // Where the run of state s stands after its self run: at its first other byte, or where it was if the plan names no self mask.
 pub(crate) fn passed(plan: &[u16], tables: &[u8; 2048], s: usize, text: &[u8], from: usize) -> usize
-    requires { ⌜ (s < 1024) × (3 * s < length (now plan)) × (getD (now plan) (3 * s) 0 ≤ 64) × (from ≤ length (now text)) × (length (now tables) ≡ 2048) ⌝ }
+    requires { ⌜ (ownPlace base s < length (now plan)) × (getD (now plan) (ownPlace base s) 0 ≤ 64) × (from ≤ length (now text)) × (length (now tables) ≡ 2048) ⌝ }
     ensures { λ r. ⌜ (from ≤ r) × (r ≤ length (now (text .entry))) ⌝ }
-    ensures passes { λ r. ⌜ ((j : ℕ) → j < r → from ≤ j → selfTakes (now (tables .entry)) (getD (now (plan .entry)) (3 * s) 0) (getD (now (text .entry)) j 0) ≡ true) ⌝ }
-    ensures stops { λ r. ⌜ (r < length (now (text .entry)) → selfTakes (now (tables .entry)) (getD (now (plan .entry)) (3 * s) 0) (getD (now (text .entry)) r 0) ≡ false) ⌝ }
+    ensures passes { λ r. ⌜ ((j : ℕ) → j < r → from ≤ j → selfTakes (now (tables .entry)) (getD (now (plan .entry)) (ownPlace base s) 0) (getD (now (text .entry)) j 0) ≡ true) ⌝ }
+    ensures stops { λ r. ⌜ (r < length (now (text .entry)) → selfTakes (now (tables .entry)) (getD (now (plan .entry)) (ownPlace base s) 0) (getD (now (text .entry)) r 0) ≡ false) ⌝ }
 {
-    let w = words::word(plan, 3 * s);
+    let w = plan_rows::layout::own(plan, s);
     if w == 0 {
         return from;
     }

@@ -2,7 +2,7 @@
 use mathlib.Core.Path.{_≡_, refl, sym, ap, subst, _∙_}
 use mathlib.Core.Bool.{true}
 use mathlib.Core.List.{List, [], _∷_}
-use mathlib.Core.Logic.{_⊎_, inl, inr, ⊎-elim}
+use mathlib.Core.Logic.{_⊎_, ⊎-elim}
 use Prim.Native.Nat.{ℕ, zero, suc, _+_, _≤_, _<_}
 use native.Mathlib.Nat.{eq-or-lt-of-le}
 use native.Mathlib.Omega.{arith}
@@ -10,7 +10,6 @@ use lib.ListN.{length, drop}
 use Rattle.lists.proofs.Bools.{Is, is, yes-is, no-is}
 use Rattle.graph_rules.specs.Graph.{Graph, graphFrom, graphFits}
 use Rattle.graph_rules.specs.Read.{readGraph}
-use Rattle.scans.specs.declared.scan.NextAnswer.{NextAnswer}
 use Rattle.scans.specs.declared.scan.Entry.{Entry}
 use Rattle.scans.specs.declared.scan.Scan.{Scan}
 use Rattle.scans.specs.declared.scan.Scanned.{Scanned}
@@ -52,7 +51,7 @@ from-offset g text (suc k) o h few = ⊎-elim at-end (inside (λ e a b. from-off
 pub scan-ends-by : (g : Graph) (text : List ℕ) → Ends 0 (length text) (listFor g text (length text + 1) fresh)
 scan-ends-by g text = from-offset g text (length text + 1) 0 (omega arith) (omega arith)
 
--- ---- the same of the calls on graph words that 12 takes
+-- ---- the same of the calls on well-formed graph words (refusal 12)
 
 module _ (graph : List ℕ) (taken : graphFits graph ≡ true) (text : List ℕ) where
   next-scans : (scan : Scan) → next graph text scan ≡ scanOf (graphFrom graph) text scan

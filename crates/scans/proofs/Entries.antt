@@ -1,15 +1,16 @@
 -- A scan's answer by its place, and the token or gap that a walk's last record gives. Assumes nothing.
-use mathlib.Core.Path.{_≡_, refl, sym, ap, subst, _∙_}
+use mathlib.Core.Path.{_≡_, sym, ap, subst, _∙_}
 use mathlib.Core.Bool.{true, false}
 use mathlib.Core.List.{List}
-use mathlib.Core.Option.{none, some}
+use mathlib.Core.Option.{some}
 use Prim.Native.Nat.{ℕ, _+_, _-_, _≤_, _<_}
 use native.Mathlib.Omega.{arith}
 use borrow.Author.Tests.{eq-eqb, ne-eqb, lt-ltb, le-ltb}
 use lib.ListN.{length, take, drop, length-drop}
 use lib.Seq.{take-all}
+use Rattle.graph_rules.specs.Layout.{noLeaf}
 use Rattle.graph_rules.specs.Graph.{Graph, graphFrom, graphFits}
-use Rattle.graph_rules.specs.Read.{Found, Reading, readGraph}
+use Rattle.graph_rules.specs.Read.{Reading, readGraph}
 use Rattle.readings.specs.Answers.{recorded}
 use Rattle.readings.proofs.Turn.{recorded-none, recorded-some}
 use Rattle.scans.specs.declared.scan.NextAnswer.the-variants.{Token, Gap, Ended, Refused}
@@ -25,21 +26,21 @@ pub part-is : (text : List ℕ) (at : ℕ) → take (length text - at) (drop at 
 part-is text at = take-all (length text - at) (drop at text) (let l = length-drop at text in omega arith)
 
 module _ (text : List ℕ) (at : ℕ) (R : Reading) (leaf end : ℕ) (e : recorded leaf end ≡ R) where
-  pub gives-none : leaf ≡ 255 → entryOf text at R ≡ gapAt text at
+  pub gives-none : leaf ≡ noLeaf → entryOf text at R ≡ gapAt text at
   gives-none q = ap (entryOf text at) (sym e ∙ recorded-none leaf end q)
 
-  module _ (n : leaf ≡ 255 → ⊥) where
-    as-found : entryOf text at R ≡ entryOf text at (some (record { leaf = leaf; end = end }))
-    as-found = ap (entryOf text at) (sym e ∙ recorded-some leaf end n)
+  module _ (n : leaf ≡ noLeaf → ⊥) where
+    as-recorded : entryOf text at R ≡ entryOf text at (some (record { leaf = leaf; end = end }))
+    as-recorded = ap (entryOf text at) (sym e ∙ recorded-some leaf end n)
 
     pub gives-empty : end ≡ 0 → entryOf text at R ≡ gapAt text at
-    gives-empty z = as-found ∙ rw (eq-eqb end 0 z)
+    gives-empty z = as-recorded ∙ rw (eq-eqb end 0 z)
 
     pub gives-token : (end ≡ 0 → ⊥) → entryOf text at R ≡ record { token = true; leaf = leaf; end = at + end }
-    gives-token z = as-found ∙ rw (ne-eqb end 0 z)
+    gives-token z = as-recorded ∙ rw (ne-eqb end 0 z)
 
 -- a token ends in the text
-pub token-within : (g : Graph) (text : List ℕ) (at leaf end : ℕ) → at ≤ length text → recorded leaf end ≡ readGraph g (drop at text) → (leaf ≡ 255 → ⊥)
+pub token-within : (g : Graph) (text : List ℕ) (at leaf end : ℕ) → at ≤ length text → recorded leaf end ≡ readGraph g (drop at text) → (leaf ≡ noLeaf → ⊥)
     → at + end ≤ length text
 token-within g text at leaf end h e n =
     go (subst (λ (r : Reading). Upto (length (drop at text)) r) (sym e ∙ recorded-some leaf end n) (reads-upto g (drop at text)))

@@ -1,26 +1,22 @@
 -- A text's entries written into a buffer, one after another: what is written, and what repeated calls would still give, are together the whole list.
 -- Assumes nothing.
 use mathlib.Core.Path.{_≡_, refl, sym, ap, subst, _∙_}
-use mathlib.Core.Bool.{Bool, true, false}
 use mathlib.Core.List.{List, [], _∷_, _++_, flatMap, append-assoc, append-nil}
-use Prim.Native.Nat.{ℕ, zero, suc, _+_, _-_, _*_, _≤_, _<_}
+use Prim.Native.Nat.{ℕ, suc, _+_, _-_, _*_, _≤_, _<_}
 use native.Mathlib.Omega.{arith}
-use native.Mathlib.Numerals.{add-one}
-use lib.ListN.{length, drop, set, length-append}
+use lib.ListN.{length, drop, length-append}
 use lib.Seq.{sets}
 use Rattle.lists.proofs.Bools.{Is, is, yes-is, no-is}
 use Rattle.lists.proofs.Buffers.{Filled, filled-none, filled-run}
 use Rattle.graph_rules.specs.Graph.{Graph}
 use Rattle.graph_rules.specs.Read.{readGraph}
-use Rattle.scans.specs.declared.scan.NextAnswer.{NextAnswer}
 use Rattle.scans.specs.declared.scan.Entry.{Entry}
 use Rattle.scans.specs.declared.scan.Scanned.{Scanned}
 use Rattle.scans.specs.declared.scan.Scan.{Scan}
 use Rattle.scans.specs.declared.scan.Place.the-variants.{Reading as ReadingAt}
 use Rattle.scans.specs.declared.list.ListAnswer.the-variants.{Listed as Entries}
-use Rattle.scans.specs.declared.list.Listed.{Listed}
-use Rattle.scans.specs.Scan.{readingAt, hasEnded, entryOf, scannedBy, scanAt, scanOf}
-use Rattle.scans.specs.List.{entryWords, leafWord, Listing, oneMore, goOn, listFor, listWords, listedBy}
+use Rattle.scans.specs.Scan.{readingAt, hasEnded, entryOf, scannedBy}
+use Rattle.scans.specs.List.{entrySize, entryWords, leafWord, Listing, oneMore, goOn, listFor, listWords, listedBy}
 use Rattle.scans.proofs.Entries.{scan-ends, scan-goes}
 use Rattle.scans.proofs.Scans.{Moves, entry-moves}
 
@@ -58,7 +54,7 @@ module _ (g : Graph) (text : List ℕ) (k at : ℕ) where
 pub record Filling (g : Graph) (text : List ℕ) (from room : ℕ) (found out : List ℕ) (n at : ℕ) : Type 0 where
   pub wrote : List ℕ
   pub filled : Filled found wrote out
-  pub size : length wrote ≡ 3 * n
+  pub size : length wrote ≡ entrySize * n
   pub few : n ≤ room
   pub within : at ≤ length text
   pub words : wrote ++ listWords (listFor g text (room - n) (readingAt at)) ≡ listWords (listFor g text room (readingAt from))
@@ -119,7 +115,7 @@ module _ (g : Graph) (text : List ℕ) (from room : ℕ) (found out : List ℕ) 
     pub left-ends : at ≡ length text → listFor g text (room - n) (readingAt at) ≡ record { entries = []; scan = hasEnded }
     left-ends q = ap (λ (k : ℕ). listFor g text k (readingAt at)) one-less ∙ list-ends g text (room - (n + 1)) at q
 
-    module _ (inside : at < length text) (fits : 3 * room ≤ length found) (e : Entry) (is-entry : e ≡ entryAt g text at) where
+    module _ (inside : at < length text) (fits : entrySize * room ≤ length found) (e : Entry) (is-entry : e ≡ entryAt g text at) where
       abbrev more-words : List ℕ
       more-words = at ∷ e .end ∷ leafWord e ∷ []
 
@@ -132,15 +128,14 @@ module _ (g : Graph) (text : List ℕ) (from room : ℕ) (found out : List ℕ) 
       abbrev after : Listing
       after = listFor g text (room - (n + 1)) (readingAt (e .end))
 
-      pub filling-more : Filling g text from room found (set (set (set out (3 * n) at) (3 * n + 1) (e .end)) (3 * n + 2) (leafWord e)) (n + 1) (e .end)
+      pub filling-more : Filling g text from room found (sets out (entrySize * n) more-words) (n + 1) (e .end)
       unfolding listWords flatMap
       filling-more =
           let (w, c, q) = known (oneMore (scannedBy at e .answer) after) rest in
           let moves : Moves text at e = subst (λ (x : Entry). Moves text at x) (sym is-entry) (entry-moves g text at inside) in
-          let run : Filled found (f .wrote ++ more-words) (sets out (3 * n) more-words) = filled-run (3 * n) more-words (f .filled) (f .size) (omega arith) in
           record {
             wrote = f .wrote ++ more-words;
-            filled = subst (λ (o : List ℕ). Filled found (f .wrote ++ more-words) o) places run;
+            filled = filled-run (entrySize * n) more-words (f .filled) (f .size) (omega arith);
             size = length-append (f .wrote) more-words ∙ (let s = f .size in omega arith);
             few = omega arith;
             within = moves .within;
@@ -151,9 +146,3 @@ module _ (g : Graph) (text : List ℕ) (from room : ℕ) (found out : List ℕ) 
             count = omega arith;
             scan = q;
           }
-        where
-          places : sets out (3 * n) more-words ≡ set (set (set out (3 * n) at) (3 * n + 1) (e .end)) (3 * n + 2) (leafWord e)
-          places =
-              let a : suc (3 * n) ≡ 3 * n + 1 = omega arith in
-              let b : suc (suc (3 * n)) ≡ 3 * n + 2 = omega arith in
-              (λ i. set (set (set out (3 * n) at) (a i) (e .end)) (b i) (leafWord e))

@@ -18,7 +18,7 @@ use Rattle.scans.specs.declared.scan.NextAnswer.the-variants.{Token, Gap
 use Rattle.scans.specs.declared.scan.Entry.{Entry}
 use Rattle.scans.specs.declared.scan.Scanned.{Scanned}
 use Rattle.scans.specs.Scan.{readingAt, hasEnded, scanReport, gapAt, entryOf, scannedBy, scanFrom, past, over, scanAt, scanOf, next}
-use Rattle.scans.specs.List.{Listing, ScanList, listReport, listFor, noList, unlessRefused, scanList}
+use Rattle.scans.specs.List.{entrySize, Listing, ScanList, listReport, listFor, noList, unlessRefused, scanList}
 use Rattle.scans.specs.Report.{scanRefusal, entryValues, scanValues}
 
 -- ---- one call
@@ -60,7 +60,7 @@ module _ (g : Graph) (text : List ℕ) where
       go false = refl
   four-values HasEnded = refl
 
-  -- of graph words that 12 takes
+  -- of well-formed graph words (refusal 12)
   place-report : (place : Place) → scanReport (scanAt g text place .answer) ≡ answering (lowest (on (past text place) 14 ∷ on (over place) 16 ∷ [])) (scanValues g text place)
   place-report (ReadingAt offset) = go (ltb (length text) offset)
     where
@@ -119,7 +119,7 @@ listTells s = listReport (s .listed .answer)
 
 pub scan-list-report : (graph text : List ℕ) (scan : Scan) (buffer : List ℕ)
     → listReport (scanList graph text scan buffer .listed .answer)
-    ≡ answering (scanRefusal graph text scan) (length (listFor (graphFrom graph) text (length buffer / 3) scan .entries) ∷ [])
+    ≡ answering (scanRefusal graph text scan) (length (listFor (graphFrom graph) text (length buffer / entrySize) scan .entries) ∷ [])
 unfolding scanList scanRefusal
 scan-list-report graph text scan buffer = go (graphFits graph)
   where
@@ -127,7 +127,7 @@ scan-list-report graph text scan buffer = go (graphFits graph)
     g = graphFrom graph
 
     l : Listing
-    l = listFor g text (length buffer / 3) scan
+    l = listFor g text (length buffer / entrySize) scan
 
     go : (fits : Bool)
         → listTells (elim fits [ true ↦ unlessRefused (scanOf g text scan .answer) scan buffer l | false ↦ noList 12 scan buffer ])

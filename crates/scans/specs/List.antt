@@ -14,16 +14,22 @@ use Rattle.scans.specs.declared.list.ListAnswer.the-variants.{Listed as 
 use Rattle.scans.specs.declared.list.Listed.{Listed}
 use Rattle.scans.specs.Scan.{readingAt, scanOf, next}
 
--- the words of an entry: start, end, and leaf or 65,535
+-- the words of an entry: start, end, and leaf or, of a gap, 65,535
+abbrev pub entrySize : ℕ
+entrySize = 3
+
+abbrev pub gapWord : ℕ
+gapWord = 65535
+
 abbrev pub entryWords : NextAnswer → List ℕ
 entryWords (Token leaf start end) = start ∷ end ∷ leaf ∷ []
-entryWords (Gap start end) = start ∷ end ∷ 65535 ∷ []
+entryWords (Gap start end) = start ∷ end ∷ gapWord ∷ []
 entryWords Ended = []
 entryWords (Refused n) = []
 
 -- the third word, of an entry as it is read
 abbrev pub leafWord : Entry → ℕ
-leafWord e = cond (e .token) (e .leaf) 65535
+leafWord e = cond (e .token) (e .leaf) gapWord
 
 -- entries, and the scan after them
 pub record Listing : Type 0 where
@@ -81,7 +87,7 @@ someList l buffer = record { listed = listedBy l; buffer = listWords l ++ drop (
 
 -- from an offset on, as many entries as the buffer has room for
 unfoldable pub listFrom : List ℕ → List ℕ → ℕ → List ℕ → ScanList
-listFrom graph text from buffer = someList (listFor (graphFrom graph) text (length buffer / 3) (readingAt from)) buffer
+listFrom graph text from buffer = someList (listFor (graphFrom graph) text (length buffer / entrySize) (readingAt from)) buffer
 
 abbrev pub unlessRefused : NextAnswer → Scan → List ℕ → Listing → ScanList
 unlessRefused (Token leaf start end) scan buffer l = someList l buffer
@@ -92,6 +98,6 @@ unlessRefused (Refused n) scan buffer l = noList n scan buffer
 unfoldable pub scanList : List ℕ → List ℕ → Scan → List ℕ → ScanList
 scanList graph text scan buffer =
     elim (graphFits graph) [
-      | true ↦ let g = graphFrom graph in unlessRefused (scanOf g text scan .answer) scan buffer (listFor g text (length buffer / 3) scan)
+      | true ↦ let g = graphFrom graph in unlessRefused (scanOf g text scan .answer) scan buffer (listFor g text (length buffer / entrySize) scan)
       | false ↦ noList 12 scan buffer
     ]

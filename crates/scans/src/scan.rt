@@ -3,11 +3,13 @@ ghost use mathlib.Core.Path.{_≡_};
 ghost use mathlib.Core.Bool.{true};
 ghost use Prim.Native.Nat.{_+_, _<_, _≤_};
 ghost use lib.ListN.{length, drop};
+ghost use Rattle.graph_rules.specs.Layout.{noLeaf};
 ghost use Rattle.graph_rules.specs.Graph.{graphFits, graphFrom};
 ghost use Rattle.graph_rules.specs.Read.{readGraph};
 ghost use Rattle.readings.specs.Answers.{recorded};
 ghost use Rattle.scans.specs.Scan.{fresh, gapAt, entryOf, scannedBy, scanOf, next};
 use readings::read::Record;
+use words::graph::NO_LEAF;
 
 pub enum Place {
     Reading(usize),
@@ -55,10 +57,10 @@ fn gap(text: &[u8], at: usize) -> Entry
 // The token or gap at an offset below the length, by the last record of a reading from there on, which ends in the text.
 pub fn entry_by(text: &[u8], at: usize, r: Record) -> Entry
     requires { ⌜ at < length (now text) ⌝ }
-    requires { ⌜ ((r .leaf ≡ 255 → ⊥) → at + r .end ≤ length (now text)) ⌝ }
+    requires { ⌜ ((r .leaf ≡ noLeaf → ⊥) → at + r .end ≤ length (now text)) ⌝ }
     ensures { λ e. ⌜ e ≡ entryOf (now (text .entry)) at (recorded (r .leaf) (r .end)) ⌝ }
 {
-    if r.leaf == 255 {
+    if r.leaf == NO_LEAF {
         return gap(text, at);
     }
     if r.end == 0 {
@@ -72,8 +74,8 @@ pub fn entry_by(text: &[u8], at: usize, r: Record) -> Entry
     }
 }
 
-// The token or gap at an offset below the length, of graph words that 12 takes.
-pub fn read_entry(graph: &[u16], text: &[u8], at: usize) -> Entry
+// The token or gap at an offset below the length, of well-formed graph words (refusal 12).
+pub(crate) fn read_entry(graph: &[u16], text: &[u8], at: usize) -> Entry
     requires { ⌜ graphFits (now graph) ≡ true ⌝ }
     requires { ⌜ at < length (now text) ⌝ }
     ensures { λ r. ⌜ r ≡ entryOf (now (text .entry)) at (readGraph (graphFrom (now (graph .entry))) (drop at (now (text .entry)))) ⌝ }
@@ -101,8 +103,8 @@ fn scanned_by(at: usize, e: Entry) -> Scanned
     }
 }
 
-// The next answer, of graph words that 12 takes.
-pub fn step(scan: Scan, graph: &[u16], text: &[u8]) -> Scanned
+// The next answer, of well-formed graph words (refusal 12).
+fn step(scan: Scan, graph: &[u16], text: &[u8]) -> Scanned
     requires { ⌜ graphFits (now graph) ≡ true ⌝ }
     ensures { λ r. ⌜ r ≡ scanOf (graphFrom (now (graph .entry))) (now (text .entry)) scan ⌝ }
 {
@@ -142,7 +144,7 @@ impl Scan {
         }
     }
 
-    // The next token or gap of the text by the graph; or that the scan has ended; or 12, 14 or 16, and the scan as it was.
+    // The next token or gap of the text by the graph; or that the scan has ended; or 12, 14 or 16, and the scan unchanged.
     pub fn next(self, graph: &[u16], text: &[u8]) -> Scanned
         ensures { λ r. ⌜ r ≡ next (now (graph .entry)) (now (text .entry)) self ⌝ }
     {

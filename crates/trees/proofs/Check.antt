@@ -1,14 +1,14 @@
 -- The check of a tree, as the code makes it: one record, every record, how often each is named, and all of it. Assumes nothing.
-use mathlib.Core.Path.{_≡_, refl, sym, ap, _∙_}
+use mathlib.Core.Path.{_≡_, sym, ap, _∙_}
 use mathlib.Core.Bool.{Bool, true, false, _&&_, _||_}
 use mathlib.Core.List.{List}
 use Prim.Native.Nat.{ℕ, _+_, _-_, _%_, _≤_, _<_}
 use native.Mathlib.Nat.{pos-of-ne-zero}
 use native.Mathlib.Omega.{arith}
-use lib.Dec.{eqb, leb, ltb}
+use lib.Dec.{eqb, leb}
 use lib.ListN.{length, getD}
-use borrow.Author.Tests.{lt-ltb, le-ltb, ltb-true, le-leb, lt-leb, leb-true, eq-eqb, ne-eqb, eqb-true}
-use Rattle.lists.specs.Lists.{tab, allL, those}
+use borrow.Author.Tests.{lt-ltb, le-ltb, le-leb, lt-leb, leb-true, eq-eqb, ne-eqb, eqb-true}
+use Rattle.lists.specs.Lists.{tab, allL}
 use Rattle.lists.proofs.Bools.{and-both, and-intro, and-false, and-true, bool-ext, or-left, or-right, Order, order, less, equal, more, or-other}
 use Rattle.lists.proofs.Elements.{getD-tab0}
 use Rattle.lists.proofs.Intervals.{from, all-from, from-all, count-none}

@@ -1,8 +1,8 @@
 // The records of a pattern tree, and refusal 10: whether words and bytes are a tree.
 ghost use mathlib.Core.Path.{_≡_};
-ghost use Prim.Native.Nat.{ℕ, _-_, _<_, _≤_};
+ghost use Prim.Native.Nat.{_-_, _<_, _≤_};
 ghost use lib.Dec.{eqb};
-ghost use lib.ListN.{length, getD};
+ghost use lib.ListN.{getD};
 ghost use Rattle.lists.specs.Lists.{tab, allL};
 ghost use Rattle.trees.specs.Tree.{count, recordOf, numbers, ruleOf, fieldsFit, childrenFit, literalFits, recordFits, named, treeFits};
 ghost use Rattle.trees.specs.Held.{Numbered};

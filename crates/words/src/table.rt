@@ -10,6 +10,10 @@ ghost use Rattle.graph_rules.specs.Layout.{leafPlace, rowPlace, matchPlace, tab
 pub const ROW: usize = 258;
 // The place of the chain's head in a row, behind the targets.
 pub const HEAD: usize = 257;
+// The most leaves.
+pub const LEAVES: usize = 255;
+// The most match records.
+pub const MATCHES: usize = 4095;
 
 // The place of word c of leaf l: priority low half, high half, empty flag.
 pub fn leaf_place(l: usize, c: usize) -> usize

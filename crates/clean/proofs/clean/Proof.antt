@@ -9,7 +9,7 @@ use Rattle.lists.proofs.Elements.{length-nil}
 use Rattle.graph_rules.specs.Table.{tableOf, refusal}
 use Rattle.graph_rules.specs.Build.{emptyLeaves}
 use Rattle.graph_rules.proofs.Shape.{refusal-small, start-none, start-some}
-use Rattle.leaves.proofs.Records.{sizes}
+use Rattle.legal.proofs.Legal.{legal-sized}
 use Rattle.clean.specs.Answers.{verdict}
 use Rattle.clean.proofs.Breaches.{error-no-start, error-empty, breaks-first, clean-refused, clean-answered}
 use Rattle.clean.proofs.clean.Statement.{statement}
@@ -35,7 +35,10 @@ returns : tie.Need-returns
 returns c = sym (clean-refused (c .before .before .before .args .table .now) _ (c .before .check .ensures) (c .if1 .taken))
 
 start-requires : tie.Need-start-requires
-start-requires c κs = let z = sizes _ (is-legal c) in omega arith
+start-requires c κs = let z = legal-sized _ (is-legal c) in omega arith
+
+cast-t6 : tie.Need-cast-t6
+cast-t6 c = search needs
 
 returns-2 : tie.Need-returns-2
 returns-2 c =
@@ -46,6 +49,9 @@ returns-2 c =
 
 count-empty-requires : tie.Need-count-empty-requires
 count-empty-requires c κs = search needs
+
+cast-t8 : tie.Need-cast-t8
+cast-t8 c = search needs
 
 returns-3 : tie.Need-returns-3
 returns-3 c =
@@ -71,8 +77,10 @@ clean-spec =
     cast-t5
     returns
     start-requires
+    cast-t6
     returns-2
     count-empty-requires
+    cast-t8
     returns-3
     judged-requires
     returns-4)

@@ -15,21 +15,21 @@ use Rattle.clean.proofs.judged.Tie as tie
 use Rattle.graph_rules.specs.Layout.{noState}
 
 -- where rules 1 and 3 are broken
-error-is : (c : tie.After-lowest-tied) → errorAt (tableOf (c .before .before .before .before .before .before .args .table .now)) ≡ orNone noState (c .lowest-tied .result)
+error-is : (c : tie.After-lowest-broken) → errorAt (tableOf (c .before .before .before .before .before .before .args .table .now)) ≡ orNone noState (c .lowest-broken .result)
 error-is c =
     let at = c .before .before .before .before .before .before in
     error-found (at .args .table .now) (at .pre .0) (at .args .start) (at .pre .1 .0)
-    (c .before .before .before .before .reached .result) (c .before .before .before .before .reached .ensures) (at .pre .1 .1) (c .lowest-tied .result)
-    (c .lowest-tied .ensures)
+    (c .before .before .before .before .reached .result) (c .before .before .before .before .reached .ensures) (at .pre .1 .1) (c .lowest-broken .result)
+    (c .lowest-broken .ensures .0)
 
-end-is : (c : tie.After-lowest-endless)
-    → endAt (tableOf (c .before .before .before .before .before .before .before .before .before .before .before .before .args .table .now)) ≡ orNone noState (c .lowest-endless .result)
+end-is : (c : tie.After-lowest-broken2)
+    → endAt (tableOf (c .before .before .before .before .before .before .before .before .before .before .before .before .args .table .now)) ≡ orNone noState (c .lowest-broken2 .result)
 end-is c =
     let tie = c .before .before .before .before .before .before in
     let at = tie .before .before .before .before .before .before in
     end-found (at .args .table .now) (at .pre .0) (at .args .start) (at .pre .1 .0)
-    (tie .before .before .before .before .reached .result) (tie .before .before .before .before .reached .ensures) (c .lowest-endless .result)
-    (c .lowest-endless .ensures)
+    (tie .before .before .before .before .reached .result) (tie .before .before .before .before .reached .ensures) (c .lowest-broken2 .result)
+    (c .lowest-broken2 .ensures .0)
 
 reached-requires : tie.Need-reached-requires
 reached-requires c κs =
@@ -41,8 +41,11 @@ reached-requires c κs =
 leaves-of-requires : tie.Need-leaves-of-requires
 leaves-of-requires c κs = search needs
 
-lowest-tied-requires : tie.Need-lowest-tied-requires
-lowest-tied-requires c κs = search needs
+lowest-broken-requires : tie.Need-lowest-broken-requires
+lowest-broken-requires c κs = search needs
+
+cast-t12 : tie.Need-cast-t12
+cast-t12 c = search needs
 
 returns : tie.Need-returns
 returns c =
@@ -56,8 +59,11 @@ returns-2 c =
     let e = c .before .before in
     sym (ap verdict (breaks-second _ (error-is (e .before) ∙ or-none noState _ (e .if1 .left)) (sym (c .before .zero-dead .ensures) ∙ not-true _ (c .if2 .taken))))
 
-lowest-endless-requires : tie.Need-lowest-endless-requires
-lowest-endless-requires c κs = search needs
+lowest-broken-requires-2 : tie.Need-lowest-broken-requires-2
+lowest-broken-requires-2 c κs = search needs
+
+cast-t16 : tie.Need-cast-t16
+cast-t16 c = search needs
 
 returns-3 : tie.Need-returns-3
 returns-3 c =
@@ -79,10 +85,12 @@ judged-spec =
     (tie.spec
     reached-requires
     leaves-of-requires
-    lowest-tied-requires
+    lowest-broken-requires
+    cast-t12
     returns
     zero-dead-requires
     returns-2
-    lowest-endless-requires
+    lowest-broken-requires-2
+    cast-t16
     returns-3
     returns-4)

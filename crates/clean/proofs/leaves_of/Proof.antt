@@ -8,8 +8,8 @@ use lib.Seq.{getD-set-same, getD-set-other}
 use Rattle.graph_rules.specs.Table.{tableOf}
 use Rattle.graph_rules.specs.Graph.{orNone}
 use Rattle.graph_rules.specs.Build.{leafOf}
-use Rattle.graph_rules.proofs.LeafWords.{leaf-back, leaf-low}
-use Rattle.leaves.proofs.Records.{sizes}
+use Rattle.graph_rules.proofs.LeafWords.{leaf-back}
+use Rattle.legal.proofs.Legal.{legal-sized}
 use Rattle.clean.proofs.leaves_of.Statement.{statement}
 use Rattle.clean.proofs.leaves_of.Tie as tie
 use Rattle.graph_rules.specs.Layout.{mostStates, noLeaf}
@@ -21,7 +21,7 @@ abbrev μ-loop : tie.MeasureT-loop
 μ-loop table n out₀ s₀ out s = n - s
 
 states-requires : tie.Need-states-requires Inv-loop μ-loop
-states-requires c κs = let z = sizes _ (c .before .pre) in omega arith
+states-requires c κs = let z = legal-sized _ (c .before .pre) in omega arith
 
 loop-holds : tie.Need-loop-holds Inv-loop μ-loop
 loop-holds c = (omega arith, length-replicate {A = ℕ} mostStates noLeaf, below-none _)
@@ -29,14 +29,11 @@ loop-holds c = (omega arith, length-replicate {A = ℕ} mostStates noLeaf, below
 leaf-of-requires : tie.Need-leaf-of-requires Inv-loop μ-loop
 leaf-of-requires c κs = omega arith
 
-cast-out : tie.Need-cast-out Inv-loop μ-loop
-cast-out c =
-    let at = c .before .before .before .before .before in
-    let b = leaf-low (at .args .table .now) (at .pre) (c .before .before .loop .s) in
-    omega (arith, c .leaf-of .ensures)
+mul-out : tie.Need-mul-out Inv-loop μ-loop
+mul-out c = let z = legal-sized _ (c .before .before .before .before .before .pre) in omega arith
 
 array-write-out : tie.Need-array-write-out Inv-loop μ-loop
-array-write-out c = let z = sizes _ (c .before .before .before .before .before .pre) in omega arith
+array-write-out c = let z = legal-sized _ (c .before .before .before .before .before .pre) in omega arith
 
 add-s : tie.Need-add-s Inv-loop μ-loop
 add-s c = omega arith
@@ -53,7 +50,7 @@ loop-again c =
       length-set (l .out) (l .s) (c .leaf-of .result) ∙ l .inv .1,
       below-more _ (l .s)
           (λ k h. ap (orNone noLeaf) (getD-set-other (l .out) (l .s) k (c .leaf-of .result) 0 (λ e. let z : k ≡ l .s = e in omega arith)) ∙ l .inv .2 k h)
-          (ap (orNone noLeaf) (getD-set-same (l .out) (l .s) (c .leaf-of .result) 0 (let z = sizes w (at .pre) in omega arith))
+          (ap (orNone noLeaf) (getD-set-same (l .out) (l .s) (c .leaf-of .result) 0 (let z = legal-sized w (at .pre) in omega arith))
           ∙ leaf-back w (at .pre) (l .s) (c .leaf-of .result) (c .leaf-of .ensures)),
     )
 
@@ -69,7 +66,7 @@ leaves-of-spec =
     states-requires
     loop-holds
     leaf-of-requires
-    cast-out
+    mul-out
     array-write-out
     add-s
     loop-less

@@ -2,7 +2,7 @@
 use mathlib.Core.Path.{sym, _∙_}
 use native.Mathlib.Omega.{arith}
 use Rattle.graph_rules.specs.Table.{tableOf}
-use Rattle.leaves.proofs.Records.{sizes}
+use Rattle.legal.proofs.Legal.{legal-sized}
 use Rattle.graph_rules.proofs.Nones.{or-none, or-number}
 use Rattle.clean.proofs.Ties.{tied-leaf, tied-head}
 use borrow.Author.Needs.{needs}
@@ -10,8 +10,11 @@ use Rattle.clean.proofs.tied.Statement.{statement}
 use Rattle.clean.proofs.tied.Tie as tie
 use Rattle.graph_rules.specs.Layout.{noLeaf}
 
+mul-if1 : tie.Need-mul-if1
+mul-if1 c = let z = legal-sized _ (c .before .pre .0) in omega arith
+
 element-copy-out-if1 : tie.Need-element-copy-out-if1
-element-copy-out-if1 c = let z = sizes _ (c .before .pre .0) in omega arith
+element-copy-out-if1 c = let z = legal-sized _ (c .before .pre .0) in omega arith
 
 returns : tie.Need-returns
 returns c =
@@ -29,4 +32,4 @@ returns-2 c =
     tied-head (tableOf (at .args .table .now)) s (sym (at .pre .1 .0 s (at .pre .1 .1)) ∙ or-none noLeaf _ (c .before .if1 .left)) (c .head .result) (c .head .ensures .0)
 
 pub tied-spec : {M : Type 1} → statement M
-tied-spec = tie.close (tie.spec element-copy-out-if1 returns head-requires returns-2)
+tied-spec = tie.close (tie.spec mul-if1 element-copy-out-if1 returns head-requires returns-2)

@@ -6,7 +6,7 @@ use borrow.Author.Count.{below-none, below-more}
 use lib.ListN.{getD}
 use Rattle.lists.proofs.Judged.{judged-false}
 use Rattle.graph_rules.specs.Layout.{tableRow, rowPlace}
-use Rattle.leaves.proofs.Records.{sizes}
+use Rattle.legal.proofs.Legal.{legal-sized}
 use Rattle.clean.proofs.Rows.{zero-judged}
 use Rattle.clean.proofs.zero_dead.Statement.{statement}
 use Rattle.clean.proofs.zero_dead.Tie as tie
@@ -26,13 +26,13 @@ word-is c =
     c .row-word .ensures .0 ∙ ap (λ (m : ℕ). getD w (rowPlace m 0 (at .loop .c)) 0) (at .before .leaves .ensures .0)
 
 leaves-requires : tie.Need-leaves-requires Inv-loop μ-loop
-leaves-requires c κs = let z = sizes _ (c .before .pre) in omega arith
+leaves-requires c κs = let z = legal-sized _ (c .before .pre) in omega arith
 
 loop-holds : tie.Need-loop-holds Inv-loop μ-loop
 loop-holds c = (omega arith, below-none _)
 
 row-word-requires : tie.Need-row-word-requires Inv-loop μ-loop
-row-word-requires c κs = let z = sizes _ (c .before .before .before .before .pre) in omega arith
+row-word-requires c κs = let z = legal-sized _ (c .before .before .before .before .pre) in omega arith
 
 returns : tie.Need-returns Inv-loop μ-loop
 returns c =

@@ -1,11 +1,11 @@
 -- The loop's invariant: the states passed that all their parents cover have lost their accept, all other words are as they were. The measure is what
 -- is left of the states. Assumes nothing.
-use mathlib.Core.Path.{_≡_, refl, sym, ap, subst, subst₂, _∙_}
+use mathlib.Core.Path.{_≡_, refl, sym, ap, subst, _∙_}
 use mathlib.Core.Bool.{Bool, true, false, not, cond}
 use mathlib.Core.List.{List}
 use mathlib.Core.Option.{Option, none, Option·getD}
 use mathlib.Core.Logic.{⊎-elim}
-use Prim.Native.Nat.{ℕ, _≤_, _<_, _-_, _+_, _*_, _/_}
+use Prim.Native.Nat.{ℕ, _≤_, _<_, _-_, _+_}
 use native.Mathlib.Omega.{arith}
 use borrow.Author.Tests.{not-true, not-false}
 use lib.ListN.{getD, set}
@@ -17,7 +17,6 @@ use Rattle.graph_rules.proofs.Marks.{cleared-length, cleared-to, cleared-state,
 use Rattle.graph_rules.proofs.Taken.{taken-few, taken-long}
 use Rattle.graph_rules.proofs.Flat.{from-length}
 use Rattle.words.proofs.GraphWords.{accept-is, early-is, taken-fits}
-use Rattle.clear.proofs.Parents.{uncovered-at}
 use Rattle.words.proofs.Marking.{Marked, marked-none, marked-more, marked-keep, marked-count, marked-later, marked-fits, marked-all}
 use Rattle.clear.proofs.clear.Statement.{statement}
 use Rattle.clear.proofs.clear.Tie as tie
@@ -62,15 +61,12 @@ St c = c .before .before .before .before .before .before
 abbrev w₀ : tie.At-loop Inv-loop μ-loop → List ℕ
 w₀ c = St c .args .graph .now
 
-count : (c : tie.At-loop Inv-loop μ-loop) → c .before .before .before .word .result ≡ getD (w₀ c) 0 0
-count c = c .before .before .before .word .ensures .0
+count : (c : tie.At-loop Inv-loop μ-loop) → c .before .before .before .states .result ≡ getD (w₀ c) 0 0
+count c = c .before .before .before .states .ensures .0
 
 -- the flag of the state that the turn looks at
 flag : (c : tie.In-loop Inv-loop μ-loop) → getD (c .before .before .uncovered .result) (c .before .loop .s) false ≡ not (covered (graphFrom (w₀ (c .before))) (c .before .loop .s))
-flag c =
-    let p = c .before in
-    let e = count p in
-    uncovered-at (graphFrom (w₀ p)) (p .before .uncovered .result) (getD (w₀ p) 0 0) (p .before .uncovered .ensures) (p .loop .s) (omega arith)
+flag c = let e = count (c .before) in c .before .before .uncovered .ensures (c .before .loop .s) (omega arith)
 
 -- the words fit in every turn, and the state is one of theirs
 fits : (c : tie.In-loop Inv-loop μ-loop) → (graphFits (c .before .loop .graph) ≡ true) × (c .before .loop .s < getD (c .before .loop .graph) 0 0)
@@ -82,8 +78,8 @@ fits c =
     let h = marked-count (w₀ p) (St p .pre) (mark (w₀ p)) (l .s) (l .graph) m in
     (marked-fits (w₀ p) (St p .pre) (mark (w₀ p)) (l .s) (l .graph) m, omega arith)
 
-word-requires : tie.Need-word-requires Inv-loop μ-loop
-word-requires c κs = omega (arith, taken-long (c .before .before .args .graph .now) (c .before .before .pre))
+states-requires : tie.Need-states-requires Inv-loop μ-loop
+states-requires c κs = c .before .before .pre
 
 uncovered-requires : tie.Need-uncovered-requires Inv-loop μ-loop
 uncovered-requires c κs = c .before .before .before .before .pre
@@ -95,30 +91,16 @@ array-read-if1 : tie.Need-array-read-if1 Inv-loop μ-loop
 array-read-if1 c =
     let e = count (c .before) in omega (arith, taken-few (w₀ (c .before)) (St (c .before) .pre))
 
-early-of-requires : tie.Need-early-of-requires Inv-loop μ-loop
-early-of-requires c κs = fits (c .before .before)
+early-requires : tie.Need-early-requires Inv-loop μ-loop
+early-requires c κs = fits (c .before .before)
 
-mul-graph : tie.Need-mul-graph Inv-loop μ-loop
-mul-graph c = omega arith
-
-add-graph : tie.Need-add-graph Inv-loop μ-loop
-add-graph c = omega arith
-
-cast-graph : tie.Need-cast-graph Inv-loop μ-loop
-cast-graph c = omega arith
-
-place-requires : tie.Need-place-requires Inv-loop μ-loop
-place-requires c κs = omega arith
-
-mul-graph-2 : tie.Need-mul-graph-2 Inv-loop μ-loop
-mul-graph-2 c = omega arith
-
-slice-write-graph : tie.Need-slice-write-graph Inv-loop μ-loop
-slice-write-graph c =
+set-marks-requires : tie.Need-set-marks-requires Inv-loop μ-loop
+set-marks-requires c κs =
     let p = c .before .before .before .before .before in
     let m = p .loop .inv .1 .len in
     let e = count p in
-    omega (arith, taken-long (w₀ p) (St p .pre))
+    let few = p .before .before .before .states .ensures .1 in
+    (omega arith, ((omega arith, c .before .early .ensures .1), omega (arith, taken-long (w₀ p) (St p .pre))))
 
 add-s : tie.Need-add-s Inv-loop μ-loop
 add-s c = omega arith
@@ -143,10 +125,9 @@ loop-again c =
           let off : covered (graphFrom w) (l .s) ≡ true = not-false _ (sym (flag t) ∙ not-true _ (v .0 .taken)) in
           let early = v .2 .ensures .0 ∙ early-is (l .graph) (fits t .0) (l .s) (fits t .1) in
           let here = marked-later w (St p .pre) (mark w) (l .s) (l .graph) m (l .s) (omega arith) in
-          let word : marksWord noLeaf (earlyIn x) ≡ marksWord noLeaf (v .2 .result) = omega arith in
-          to _ (v .4)
-          (subst₂ (λ (i y : ℕ). Marked w (mark w) (l .s + 1) (set (l .graph) i y)) (sym (v .3 .ensures)) (ap (λ (b : Bool). cond b (marksWord noLeaf (earlyIn x)) x) off ∙ word)
-          (marked-more w (mark w) (l .s) (l .graph) (omega (arith, taken-long w (St p .pre))) m)))
+          let word : marksWord noLeaf (v .2 .result) ≡ marksWord noLeaf (earlyIn x) = omega arith in
+          to _ (v .7 ∙ v .4 .ensures ∙ ap (set (l .graph) (graphPlace (l .s) marksPlace)) (word ∙ ap (λ (b : Bool). cond b (marksWord noLeaf (earlyIn x)) x) (sym off)))
+          (marked-more w (mark w) (l .s) (l .graph) (omega (arith, taken-long w (St p .pre))) m))
           (λ v.
           let on : covered (graphFrom w) (l .s) ≡ false = not-true _ (sym (flag t) ∙ not-false _ (v .0 .left)) in
           to _ (v .1) (marked-keep w (mark w) (l .s) (l .graph) (ap (λ (b : Bool). cond b (marksWord noLeaf (earlyIn x)) x) (sym on)) m))
@@ -177,17 +158,12 @@ clear-spec =
     (tie.spec
     Inv-loop
     μ-loop
-    word-requires
+    states-requires
     uncovered-requires
     loop-holds
     array-read-if1
-    early-of-requires
-    mul-graph
-    add-graph
-    cast-graph
-    place-requires
-    mul-graph-2
-    slice-write-graph
+    early-requires
+    set-marks-requires
     add-s
     loop-less
     loop-again

@@ -1,4 +1,4 @@
--- The loops' invariant: the flags are of the states that an edge passed uncovers. The measures are what is left of the states, and of the 257 edges.
+-- The loops' invariant: the flags are of the states that an edge passed uncovers. The measures are what is left of the states, and of the edges.
 -- Assumes nothing.
 use mathlib.Core.Path.{_≡_, sym, subst, _∙_}
 use mathlib.Core.Bool.{false, false≢true}
@@ -7,11 +7,11 @@ use mathlib.Core.Logic.{⊎-elim}
 use Prim.Native.Nat.{ℕ, _≤_, _<_, _-_}
 use native.Mathlib.Omega.{arith}
 use borrow.Author.Tests.{eqb-true, eqb-false, not-true, not-false}
-use lib.ListN.{getD}
+use lib.ListN.{length, getD}
 use Rattle.lists.specs.Lists.{eqOption}
 use Rattle.lists.proofs.Bools.{none-some, some-inj}
 use Rattle.graph_rules.specs.Graph.{Graph, graphFrom, to, acceptOf, earlyOf}
-use Rattle.graph_rules.proofs.Taken.{taken-few, taken-long}
+use Rattle.graph_rules.proofs.Taken.{taken-few}
 use Rattle.graph_rules.proofs.Flat.{from-length}
 use Rattle.words.proofs.GraphWords.{from-edge, edge-none, edge-some, leaves-agree, leaves-differ}
 use Rattle.clear.proofs.Parents.{Passed, passed-none, passed-skip, passed-mark, passed-row, passed-all}
@@ -20,10 +20,10 @@ use Rattle.clear.proofs.uncovered.Tie as tie
 use Rattle.graph_rules.specs.Layout.{stepCount, noState}
 
 abbrev Inv-loop2 : tie.InvT-loop2
-Inv-loop2 graph n out₀ p early c₀ out c = (c ≤ stepCount) × Passed (graphFrom graph) p c out
+Inv-loop2 graph n out₀ p leaf c₀ out c = (c ≤ stepCount) × Passed (graphFrom graph) p c out
 
 abbrev μ-loop2 : tie.MeasureT-loop2
-μ-loop2 graph n out₀ p early c₀ out c = stepCount - c
+μ-loop2 graph n out₀ p leaf c₀ out c = stepCount - c
 
 abbrev Inv-loop : tie.InvT-loop
 Inv-loop graph n out₀ p₀ out p = (p ≤ n) × Passed (graphFrom graph) p 0 out
@@ -38,7 +38,7 @@ abbrev g : tie.At-loop Inv-loop2 μ-loop2 Inv-loop μ-loop → Graph
 g c = graphFrom (St c .args .graph .now)
 
 inside : (c : tie.In-loop Inv-loop2 μ-loop2 Inv-loop μ-loop) → c .before .loop .p < getD (St (c .before) .args .graph .now) 0 0
-inside c = let e = c .before .before .word .ensures .0 in omega arith
+inside c = let e = c .before .before .states .ensures .0 in omega arith
 
 -- the edge that the turn looks at
 module _ (c : tie.After-target Inv-loop2 μ-loop2 Inv-loop μ-loop) where
@@ -57,14 +57,14 @@ module _ (c : tie.After-target Inv-loop2 μ-loop2 Inv-loop μ-loop) where
   ends : u ≡ noState → to (g at) (at .loop .p) edge ≡ none
   ends = edge-none (St at .args .graph .now) (St at .pre) (at .loop .p) edge u (c .target .ensures)
 
-word-requires : tie.Need-word-requires Inv-loop2 μ-loop2 Inv-loop μ-loop
-word-requires c κs = omega (arith, taken-long (c .before .args .graph .now) (c .before .pre))
+states-requires : tie.Need-states-requires Inv-loop2 μ-loop2 Inv-loop μ-loop
+states-requires c κs = c .before .pre
 
 loop-holds : tie.Need-loop-holds Inv-loop2 μ-loop2 Inv-loop μ-loop
 loop-holds c = (omega arith, passed-none _)
 
-early-of-requires : tie.Need-early-of-requires Inv-loop2 μ-loop2 Inv-loop μ-loop
-early-of-requires c κs = (St (c .before) .pre, inside c)
+early-requires : tie.Need-early-requires Inv-loop2 μ-loop2 Inv-loop μ-loop
+early-requires c κs = (St (c .before) .pre, inside c)
 
 loop2-holds : tie.Need-loop2-holds Inv-loop2 μ-loop2 Inv-loop μ-loop
 loop2-holds c = (omega arith, c .before .before .loop .inv .1)
@@ -77,8 +77,8 @@ target-requires c κs =
 add-c : tie.Need-add-c Inv-loop2 μ-loop2 Inv-loop μ-loop
 add-c c = omega arith
 
-accept-of-requires : tie.Need-accept-of-requires Inv-loop2 μ-loop2 Inv-loop μ-loop
-accept-of-requires c κs = (St (at (c .before)) .pre, leads (c .before) (c .if1 .taken) .1)
+accept-requires : tie.Need-accept-requires Inv-loop2 μ-loop2 Inv-loop μ-loop
+accept-requires c κs = (St (at (c .before)) .pre, leads (c .before) (c .if1 .taken) .1)
 
 array-write-out : tie.Need-array-write-out Inv-loop2 μ-loop2 Inv-loop μ-loop
 array-write-out c =
@@ -99,8 +99,8 @@ loop2-again c =
       omega arith,
       passed-mark (g (at t)) (at t .loop .p) (l .c) (l .out) (l .inv .1) (u t) (omega arith) (
         e,
-        leaves-differ w (St (at t) .pre) (at t .loop .p) (u t) (c .before .accept-of .result) (t .before .before .before .early-of .result)
-            (c .before .accept-of .ensures .0) (t .before .before .before .early-of .ensures .0) (eqb-false _ _ (not-true _ (c .if2 .taken))),
+        leaves-differ w (St (at t) .pre) (at t .loop .p) (u t) (c .before .accept .result) (t .before .before .before .early .result)
+            (c .before .accept .ensures .0) (t .before .before .before .early .ensures .0) (eqb-false _ _ (not-true _ (c .if2 .taken))),
       ),
     )
 
@@ -118,10 +118,10 @@ loop2-again-2 c =
       passed-skip (g (at t)) s (l .c) (l .out) (l .inv .1)
           (⊎-elim
           (λ v x y.
-          let e : v .1 .result ≡ t .before .before .before .early-of .result = eqb-true _ _ (not-false _ (v .2 .left)) in
+          let e : v .1 .result ≡ t .before .before .before .early .result = eqb-true _ _ (not-false _ (v .2 .left)) in
           let same : u t ≡ x = some-inj (sym (leads t (v .0 .taken) .0) ∙ y .0) in
           false≢true (sym (subst (λ (z : ℕ). eqOption (earlyOf (g (at t)) s) (acceptOf (g (at t)) z) ≡ false) (sym same) (y .1))
-          ∙ leaves-agree w taken s (u t) (v .1 .result) (t .before .before .before .early-of .result) (v .1 .ensures .0) (t .before .before .before .early-of .ensures .0) e))
+          ∙ leaves-agree w taken s (u t) (v .1 .result) (t .before .before .before .early .result) (v .1 .ensures .0) (t .before .before .before .early .ensures .0) e))
           (λ v x y. none-some (sym (ends t (v .left)) ∙ y .0))
           (c .if1 .came)),
     )
@@ -140,12 +140,11 @@ loop-again c =
     (omega arith, passed-row (g p) (p .loop .p) (l .c) (l .out) (l .inv .1) (λ d u e. let b = from-edge w (St p .pre) (p .loop .p) d u e .1 in omega arith))
 
 returns : tie.Need-returns Inv-loop2 μ-loop2 Inv-loop μ-loop
-returns c =
+returns c u h =
     let p = c .before in
     let w = St p .args .graph .now in
-    let e : p .loop .p ≡ getD w 0 0 = let a = p .before .word .ensures .0 in omega arith in
-    passed-all (g p) (p .loop .out) (getD w 0 0) (from-length w) (taken-few w (St p .pre)) (λ q d u x. from-edge w (St p .pre) q d u x .3)
-    (subst (λ (k : ℕ). Passed (g p) k 0 (p .loop .out)) e (p .loop .inv .1))
+    let e : p .loop .p ≡ length (g p .states) = let a = p .before .states .ensures .0 in let b = from-length w in omega arith in
+    passed-all (g p) (p .loop .out) (subst (λ (k : ℕ). Passed (g p) k 0 (p .loop .out)) e (p .loop .inv .1)) u
 
 pub uncovered-spec : {M : Type 1} → statement M
 uncovered-spec =
@@ -155,13 +154,13 @@ uncovered-spec =
     μ-loop2
     Inv-loop
     μ-loop
-    word-requires
+    states-requires
     loop-holds
-    early-of-requires
+    early-requires
     loop2-holds
     target-requires
     add-c
-    accept-of-requires
+    accept-requires
     array-write-out
     loop2-less
     loop2-again

@@ -4,7 +4,7 @@ use Prim.Native.Nat.{_+_, _-_, _/_}
 use native.Mathlib.Omega.{arith}
 use Rattle.graph_rules.specs.Table.{tableOf}
 use Rattle.leaves.specs.Chains.{tieFrom}
-use Rattle.leaves.proofs.Records.{sizes}
+use Rattle.legal.proofs.Legal.{legal-sized}
 use Rattle.conflicts.proofs.Slotted.{Between, between-all, between-low, between-high, between-slot}
 use Rattle.conflicts.proofs.slot_of.Statement.{statement}
 use Rattle.conflicts.proofs.slot_of.Tie as tie
@@ -38,7 +38,7 @@ cast-tie-before c =
     let l = c .before .before .loop in
     let m = l .low + (l .high - l .low) / 2 in
     let h = at .pre .1 .1 .1 .held .low m (omega arith) in
-    let z = sizes _ (at .pre .0) in
+    let z = legal-sized _ (at .pre .0) in
     omega arith
 
 tie-before-requires : tie.Need-tie-before-requires Inv-loop μ-loop

@@ -3,7 +3,7 @@ use mathlib.Core.Path.{_≡_, sym, subst}
 use mathlib.Core.List.{List}
 use Prim.Native.Nat.{ℕ, _+_, _-_}
 use native.Mathlib.Omega.{arith}
-use Rattle.leaves.proofs.Records.{sizes}
+use Rattle.legal.proofs.Legal.{legal-sized}
 use Rattle.conflicts.proofs.Conflicts.{down-free, down-tied}
 use Rattle.conflicts.proofs.Orders.{Sorting, sorting-none, sorting-order, sorting-pass, sorting-more, sorting-done}
 use Rattle.conflicts.proofs.tie_order.Statement.{statement}
@@ -16,7 +16,7 @@ abbrev μ-loop : tie.MeasureT-loop
 μ-loop table set order₀ count₀ s₀ order count s = s
 
 states-requires : tie.Need-states-requires Inv-loop μ-loop
-states-requires c κs = let z = sizes _ (c .before .pre) in omega arith
+states-requires c κs = let z = legal-sized _ (c .before .pre) in omega arith
 
 loop-holds : tie.Need-loop-holds Inv-loop μ-loop
 loop-holds c =
@@ -36,20 +36,20 @@ slot-of-requires c κs =
 
 cast-put-in : tie.Need-cast-put-in Inv-loop μ-loop
 cast-put-in c =
-    let z = sizes _ (c .before .before .before .before .before .before .before .before .before .pre) in
+    let z = legal-sized _ (c .before .before .before .before .before .before .before .before .before .pre) in
     let b = c .before .before .before .before .tied .ensures .1 in
     omega arith
 
 put-in-requires : tie.Need-put-in-requires Inv-loop μ-loop
 put-in-requires c κs =
     let l = c .before .before .before .before .before .before .loop in
-    let z = sizes _ (c .before .before .before .before .before .before .before .before .before .pre) in
+    let z = legal-sized _ (c .before .before .before .before .before .before .before .before .before .pre) in
     let f = l .inv .few in
     (l .inv .long, (omega arith, c .before .slot-of .ensures .1))
 
 add-count : tie.Need-add-count Inv-loop μ-loop
 add-count c =
-    let z = sizes _ (c .before .before .before .before .before .before .before .before .before .before .pre) in omega arith
+    let z = legal-sized _ (c .before .before .before .before .before .before .before .before .before .before .pre) in omega arith
 
 loop-less : tie.Need-loop-less Inv-loop μ-loop
 loop-less c = omega arith

@@ -4,7 +4,7 @@ use Prim.Native.Nat.{ℕ}
 use native.Mathlib.Omega.{arith}
 use Rattle.graph_rules.specs.Table.{tableOf}
 use Rattle.leaves.specs.Chains.{tieFrom}
-use Rattle.leaves.proofs.Records.{sizes}
+use Rattle.legal.proofs.Legal.{legal-sized}
 use Rattle.conflicts.proofs.Conflicts.{Counted, counted-none, counted-pass, counted-more, down-free, down-tied, ties-number, ties-words}
 use Rattle.conflicts.proofs.tie_words.Statement.{statement}
 use Rattle.conflicts.proofs.tie_words.Tie as tie
@@ -16,7 +16,7 @@ abbrev μ-loop : tie.MeasureT-loop
 μ-loop table set errors₀ words₀ s₀ errors words s = s
 
 states-requires : tie.Need-states-requires Inv-loop μ-loop
-states-requires c κs = let z = sizes _ (c .before .pre) in omega arith
+states-requires c κs = let z = legal-sized _ (c .before .pre) in omega arith
 
 loop-holds : tie.Need-loop-holds Inv-loop μ-loop
 loop-holds c =
@@ -30,16 +30,16 @@ tied-requires : tie.Need-tied-requires Inv-loop μ-loop
 tied-requires c κs = omega arith
 
 add-errors : tie.Need-add-errors Inv-loop μ-loop
-add-errors c = let z = sizes _ (c .before .before .before .before .before .before .pre) in omega arith
+add-errors c = let z = legal-sized _ (c .before .before .before .before .before .before .pre) in omega arith
 
 tie-length-requires : tie.Need-tie-length-requires Inv-loop μ-loop
 tie-length-requires c κs = omega arith
 
 add-words : tie.Need-add-words Inv-loop μ-loop
-add-words c = let z = sizes _ (c .before .before .before .before .before .before .before .pre) in omega arith
+add-words c = let z = legal-sized _ (c .before .before .before .before .before .before .before .pre) in omega arith
 
 add-words-2 : tie.Need-add-words-2 Inv-loop μ-loop
-add-words-2 c = let z = sizes _ (c .before .before .before .before .before .before .before .pre) in omega arith
+add-words-2 c = let z = legal-sized _ (c .before .before .before .before .before .before .before .pre) in omega arith
 
 loop-less : tie.Need-loop-less Inv-loop μ-loop
 loop-less c = omega arith

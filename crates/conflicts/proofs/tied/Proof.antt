@@ -4,14 +4,14 @@ use native.Mathlib.Omega.{arith}
 use borrow.Author.Tests.{not-true, not-false}
 use Rattle.graph_rules.specs.Table.{tableOf}
 use Rattle.leaves.specs.Chains.{nextTied}
-use Rattle.leaves.proofs.Records.{sizes}
+use Rattle.legal.proofs.Legal.{legal-sized}
 use Rattle.conflicts.proofs.Conflicts.{tied-out, tied-none, tied-one, tied-two}
 use borrow.Author.Needs.{needs}
 use Rattle.conflicts.proofs.tied.Statement.{statement}
 use Rattle.conflicts.proofs.tied.Tie as tie
 
 element-copy-out-if1 : tie.Need-element-copy-out-if1
-element-copy-out-if1 c = let z = sizes _ (c .before .pre .0) in omega arith
+element-copy-out-if1 c = let z = legal-sized _ (c .before .pre .0) in omega arith
 
 returns : tie.Need-returns
 returns c =

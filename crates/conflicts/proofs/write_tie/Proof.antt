@@ -9,7 +9,7 @@ use lib.Seq.{sets}
 use Rattle.lists.proofs.Runs.{Underway, run-begun, run-one, run-room}
 use Rattle.graph_rules.specs.Table.{tableOf}
 use Rattle.leaves.specs.Chains.{tieFrom}
-use Rattle.leaves.proofs.Records.{sizes}
+use Rattle.legal.proofs.Legal.{legal-sized}
 use Rattle.leaves.proofs.Contenders.{tie-end, tie-step}
 use Rattle.conflicts.proofs.write_tie.Statement.{statement}
 use Rattle.conflicts.proofs.write_tie.Tie as tie
@@ -66,7 +66,7 @@ match-leaf-requires : tie.Need-match-leaf-requires Inv-loop μ-loop
 match-leaf-requires c κs = omega arith
 
 cast-errors-2 : tie.Need-cast-errors-2 Inv-loop μ-loop
-cast-errors-2 c = let z = sizes _ (c .before .before .before .before .before .before .pre .0) in omega arith
+cast-errors-2 c = let z = legal-sized _ (c .before .before .before .before .before .before .pre .0) in omega arith
 
 mul-errors-3 : tie.Need-mul-errors-3 Inv-loop μ-loop
 mul-errors-3 c = let p = place (c .before) in omega arith

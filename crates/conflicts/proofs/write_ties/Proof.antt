@@ -8,7 +8,7 @@ use Rattle.lists.proofs.Runs.{Underway, run-begun, run-more, run-room}
 use Rattle.graph_rules.specs.Table.{tableOf}
 use Rattle.graph_rules.specs.Build.{Error, disambiguation, errorWords}
 use Rattle.leaves.specs.Chains.{tieFrom}
-use Rattle.leaves.proofs.Records.{sizes}
+use Rattle.legal.proofs.Legal.{legal-sized}
 use Rattle.conflicts.proofs.Listing.{tieWords, run-listed, ties-on, ties-over}
 use Rattle.conflicts.proofs.write_ties.Statement.{statement}
 use Rattle.conflicts.proofs.write_ties.Tie as tie
@@ -42,7 +42,7 @@ array-read-write-tie c = let h = c .before .before .before .tie-order .ensures .
 cast-write-tie : tie.Need-cast-write-tie Inv-loop μ-loop
 cast-write-tie c =
     let o = c .before .before .before .tie-order in
-    let z = sizes _ (c .before .before .before .before .before .before .pre .0) in
+    let z = legal-sized _ (c .before .before .before .before .before .before .pre .0) in
     let h = o .ensures .1 .low (c .before .loop .k) (c .loop-test .taken) in
     omega arith
 

@@ -21,8 +21,8 @@ returns c =
     let w = a .args .graph .now in
     (ap (λ (o : Option ℕ). Option·getD (acceptBy (graphFrom w) o) noLeaf) (sym (edge-none w (a .pre .0) (a .args .s) (a .args .c) (t .result) (t .ensures) (c .if1 .taken))), omega arith)
 
-accept-of-requires : tie.Need-accept-of-requires
-accept-of-requires c κs =
+accept-requires : tie.Need-accept-requires
+accept-requires c κs =
     let t = c .before .target in
     let a = c .before .before .before in
     (a .pre .0, edge-some (a .args .graph .now) (a .pre .0) (a .args .s) (a .args .c) (t .result) (t .ensures) (c .if1 .left) .1)
@@ -32,11 +32,11 @@ returns-2 c =
     let t = c .before .before .target in
     let a = c .before .before .before .before in
     let w = a .args .graph .now in (
-      c .accept-of .ensures .0
+      c .accept .ensures .0
           ∙ ap (λ (o : Option ℕ). Option·getD (acceptBy (graphFrom w) o) noLeaf)
           (sym (edge-some w (a .pre .0) (a .args .s) (a .args .c) (t .result) (t .ensures) (c .before .if1 .left) .0)),
-      c .accept-of .ensures .1,
+      c .accept .ensures .1,
     )
 
 pub accept-by-spec : {M : Type 1} → statement M
-accept-by-spec = tie.close (tie.spec target-requires returns accept-of-requires returns-2)
+accept-by-spec = tie.close (tie.spec target-requires returns accept-requires returns-2)

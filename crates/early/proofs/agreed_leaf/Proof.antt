@@ -1,4 +1,4 @@
--- The loop's invariant: every byte passed leads to the leaf that byte 0 leads to. The measure is what is left of the 256 bytes. Assumes nothing.
+-- The loop's invariant: every byte passed leads to the leaf that byte 0 leads to. The measure is what is left of the bytes. Assumes nothing.
 use mathlib.Core.Path.{_≡_, sym, subst, _∙_}
 use Prim.Native.Nat.{ℕ, _≤_, _<_, _-_}
 use native.Mathlib.Omega.{arith}
@@ -10,10 +10,10 @@ use Rattle.early.proofs.agreed_leaf.Tie as tie
 use Rattle.graph_rules.specs.Layout.{endStep}
 
 abbrev Inv-loop : tie.InvT-loop
-Inv-loop graph s leaf b₀ b = (b ≤ 256) × ((i : ℕ) → i < b → leafBy graph s i ≡ leaf)
+Inv-loop graph s leaf b₀ b = (b ≤ endStep) × ((i : ℕ) → i < b → leafBy graph s i ≡ leaf)
 
 abbrev μ-loop : tie.MeasureT-loop
-μ-loop graph s leaf b₀ b = 256 - b
+μ-loop graph s leaf b₀ b = endStep - b
 
 abbrev St : tie.At-loop Inv-loop μ-loop → tie.Start Inv-loop μ-loop
 St c = c .before .before .before

@@ -1,11 +1,11 @@
 -- The loop's invariant: the states passed have their early leaf beside the accept they had, all other words are as they were. The measure is what is
 -- left of the states. Assumes nothing.
-use mathlib.Core.Path.{_≡_, refl, sym, ap, subst₂, _∙_}
+use mathlib.Core.Path.{_≡_, refl, ap, _∙_}
 use mathlib.Core.Bool.{true}
 use mathlib.Core.List.{List}
 use mathlib.Core.Option.{Option, Option·getD}
 use mathlib.Core.Logic.{⊎-elim}
-use Prim.Native.Nat.{ℕ, _≤_, _<_, _-_, _+_, _*_, _%_}
+use Prim.Native.Nat.{ℕ, _≤_, _<_, _-_}
 use native.Mathlib.Omega.{arith}
 use lib.ListN.{getD, set}
 use Rattle.lists.proofs.Bools.{lt-or-le}
@@ -55,13 +55,13 @@ fits : (c : tie.In-loop Inv-loop μ-loop) → (graphFits (c .before .loop .graph
 fits c =
     let p = c .before in
     let l = p .loop in
-    let e = p .before .word .ensures .0 in
+    let e = p .before .states .ensures .0 in
     let m = l .inv .1 in
     let h = marked-count (w₀ p) (St p .pre) (mark (w₀ p)) (l .s) (l .graph) m in
     (marked-fits (w₀ p) (St p .pre) (mark (w₀ p)) (l .s) (l .graph) m, omega arith)
 
-word-requires : tie.Need-word-requires Inv-loop μ-loop
-word-requires c κs = omega (arith, taken-long (c .before .before .args .graph .now) (c .before .before .pre))
+states-requires : tie.Need-states-requires Inv-loop μ-loop
+states-requires c κs = c .before .before .pre
 
 loop-holds : tie.Need-loop-holds Inv-loop μ-loop
 loop-holds c = (omega arith, marked-none _ _)
@@ -69,30 +69,15 @@ loop-holds c = (omega arith, marked-none _ _)
 agreed-leaf-requires : tie.Need-agreed-leaf-requires Inv-loop μ-loop
 agreed-leaf-requires c κs = fits (c .before)
 
-accept-of-requires : tie.Need-accept-of-requires Inv-loop μ-loop
-accept-of-requires c κs = fits (c .before .before .before)
+accept-requires : tie.Need-accept-requires Inv-loop μ-loop
+accept-requires c κs = fits (c .before .before .before)
 
-mul-graph : tie.Need-mul-graph Inv-loop μ-loop
-mul-graph c = omega arith
-
-add-graph : tie.Need-add-graph Inv-loop μ-loop
-add-graph c = omega arith
-
-cast-graph : tie.Need-cast-graph Inv-loop μ-loop
-cast-graph c = omega arith
-
-place-requires : tie.Need-place-requires Inv-loop μ-loop
-place-requires c κs = omega arith
-
-mul-graph-2 : tie.Need-mul-graph-2 Inv-loop μ-loop
-mul-graph-2 c = omega arith
-
-slice-write-graph : tie.Need-slice-write-graph Inv-loop μ-loop
-slice-write-graph c =
+set-marks-requires : tie.Need-set-marks-requires Inv-loop μ-loop
+set-marks-requires c κs =
     let p = c .before .before .before .before .before .before in
     let m = p .loop .inv .1 .len in
-    let e = p .before .word .ensures .0 in
-    omega (arith, taken-long (w₀ p) (St p .pre))
+    let e = p .before .states .ensures in
+    (omega arith, ((c .before .accept .ensures .1, c .before .before .before .agreed-leaf .ensures .1), omega (arith, taken-long (w₀ p) (St p .pre))))
 
 add-s : tie.Need-add-s Inv-loop μ-loop
 add-s c = omega arith
@@ -102,20 +87,22 @@ loop-less c = omega arith
 
 loop-again : tie.Need-loop-again Inv-loop μ-loop
 loop-again c =
-    let t = c .before .before .before .before .before in
+    let set = c .before .before .set-marks in
+    let t = c .before .before .before .before .before .before .before .before in
     let p = t .before in
     let l = p .loop in
     let m = l .inv .1 in
     let taken = St p .pre in
-    let e = p .before .word .ensures .0 in
+    let e = p .before .states .ensures .0 in
     let h : l .s < getD (w₀ p) 0 0 = omega arith in
-    let accept = c .before .accept-of .ensures .0 ∙ accept-is (l .graph) (fits t .0) (l .s) (fits t .1) in
+    let own = c .before .before .before .before .accept in
+    let leaf = c .before .before .before .before .before .before .agreed-leaf in
+    let accept = own .ensures .0 ∙ accept-is (l .graph) (fits t .0) (l .s) (fits t .1) in
     let here = marked-later (w₀ p) taken (mark (w₀ p)) (l .s) (l .graph) m (l .s) (omega arith) in
-    let leaf = c .before .before .before .agreed-leaf .ensures .0 ∙ still (w₀ p) taken (l .s) (l .graph) m h in
-    let word : mark (w₀ p) (l .s) ≡ marksWord (c .before .accept-of .result) (c .before .before .before .agreed-leaf .result) = omega arith in (
+    let early = leaf .ensures .0 ∙ still (w₀ p) taken (l .s) (l .graph) m h in
+    let word : mark (w₀ p) (l .s) ≡ marksWord (own .result) (leaf .result) = omega arith in (
       omega arith,
-      subst₂ (λ (i x : ℕ). Marked (w₀ p) (mark (w₀ p)) (l .s + 1) (set (l .graph) i x)) (sym (c .place .ensures)) word
-          (marked-more (w₀ p) (mark (w₀ p)) (l .s) (l .graph) (omega (arith, taken-long (w₀ p) taken)) m),
+      rw (set .ensures, ← word) (marked-more (w₀ p) (mark (w₀ p)) (l .s) (l .graph) (omega (arith, taken-long (w₀ p) taken)) m),
     )
 
 same-length : tie.Need-same-length Inv-loop μ-loop
@@ -128,7 +115,7 @@ returns c =
     let l = p .loop in
     let w = w₀ p in
     let taken = St p .pre in
-    let e = p .before .word .ensures .0 in
+    let e = p .before .states .ensures .0 in
     let small : (i : ℕ) → getD w i 0 < 65536 = λ i. omega (arith, p .before .before .before .slice-known .given i) in (
       marked-all w taken (mark w) (l .s) (l .graph) (l .inv .1) (omega arith) (withEarly (graphFrom w))
           (early-fits noLeaf (getD w 0 0) (graphFrom w) (taken-fits w taken small)) (early-length (graphFrom w) ∙ from-length w) refl (early-to (graphFrom w))
@@ -142,16 +129,11 @@ early-spec =
     (tie.spec
     Inv-loop
     μ-loop
-    word-requires
+    states-requires
     loop-holds
     agreed-leaf-requires
-    accept-of-requires
-    mul-graph
-    add-graph
-    cast-graph
-    place-requires
-    mul-graph-2
-    slice-write-graph
+    accept-requires
+    set-marks-requires
     add-s
     loop-less
     loop-again

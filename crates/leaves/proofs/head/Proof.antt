@@ -5,15 +5,16 @@ use native.Mathlib.Omega.{arith}
 use lib.ListN.{getD}
 use Rattle.graph_rules.proofs.Flat.{head-word}
 use Rattle.graph_rules.specs.Layout.{headPlace, rowPlace}
-use Rattle.leaves.proofs.Records.{sizes, head-below}
+use Rattle.legal.proofs.Legal.{legal-sized}
+use Rattle.graph_rules.proofs.Shape.{head-fits}
 use Rattle.leaves.proofs.head.Statement.{statement}
 use Rattle.leaves.proofs.head.Tie as tie
 
 leaves-requires : tie.Need-leaves-requires
-leaves-requires c κs = let z = sizes _ (c .before .pre .0) in omega arith
+leaves-requires c κs = let z = legal-sized _ (c .before .pre .0) in omega arith
 
 row-word-requires : tie.Need-row-word-requires
-row-word-requires c κs = let z = sizes _ (c .before .before .pre .0) in omega arith
+row-word-requires c κs = let z = legal-sized _ (c .before .before .pre .0) in omega arith
 
 returns : tie.Need-returns
 returns c =
@@ -23,7 +24,7 @@ returns c =
     let e = c .row-word .ensures .0
     ∙ ap (λ (m : ℕ). getD w (rowPlace m s headPlace) 0) (c .before .leaves .ensures .0)
     ∙ sym (head-word w s (at .pre .1)) in
-    let l = head-below w (at .pre .0) s in
+    let l = head-fits w (at .pre .0) s in
     (e, omega arith)
 
 pub head-spec : {M : Type 1} → statement M

@@ -5,7 +5,7 @@ use native.Mathlib.Omega.{arith}
 use Rattle.graph_rules.specs.Table.{tableOf, leafAt}
 use Rattle.graph_rules.proofs.Flat.{priority-word}
 use Rattle.leaves.specs.Chains.{priorityAt}
-use Rattle.leaves.proofs.Records.{sizes}
+use Rattle.legal.proofs.Legal.{legal-sized}
 use borrow.Author.Needs.{needs}
 use Rattle.leaves.proofs.priority.Statement.{statement}
 use Rattle.leaves.proofs.priority.Tie as tie
@@ -14,10 +14,10 @@ match-leaf-requires : tie.Need-match-leaf-requires
 match-leaf-requires c κs = search needs
 
 leaf-word-requires : tie.Need-leaf-word-requires
-leaf-word-requires c κs = let z = sizes _ (c .before .before .pre .0) in omega arith
+leaf-word-requires c κs = let z = legal-sized _ (c .before .before .pre .0) in omega arith
 
 leaf-word-requires-2 : tie.Need-leaf-word-requires-2
-leaf-word-requires-2 c κs = let z = sizes _ (c .before .before .before .pre .0) in omega arith
+leaf-word-requires-2 c κs = let z = legal-sized _ (c .before .before .before .pre .0) in omega arith
 
 mul-result : tie.Need-mul-result
 mul-result c = search needs

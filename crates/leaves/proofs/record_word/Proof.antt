@@ -4,18 +4,18 @@ use Prim.Native.Nat.{ℕ}
 use native.Mathlib.Omega.{arith}
 use lib.ListN.{getD}
 use Rattle.graph_rules.specs.Layout.{matchPlace}
-use Rattle.leaves.proofs.Records.{sizes}
+use Rattle.legal.proofs.Legal.{legal-sized}
 use Rattle.leaves.proofs.record_word.Statement.{statement}
 use Rattle.leaves.proofs.record_word.Tie as tie
 
 leaves-requires : tie.Need-leaves-requires
-leaves-requires c κs = let z = sizes _ (c .before .pre .0) in omega arith
+leaves-requires c κs = let z = legal-sized _ (c .before .pre .0) in omega arith
 
 states-requires : tie.Need-states-requires
-states-requires c κs = let z = sizes _ (c .before .before .pre .0) in omega arith
+states-requires c κs = let z = legal-sized _ (c .before .before .pre .0) in omega arith
 
 match-word-requires : tie.Need-match-word-requires
-match-word-requires c κs = let z = sizes _ (c .before .before .before .pre .0) in omega arith
+match-word-requires c κs = let z = legal-sized _ (c .before .before .before .pre .0) in omega arith
 
 returns : tie.Need-returns
 returns c =

@@ -2,18 +2,18 @@
 -- which a round that merges lowers. Assumes nothing.
 use mathlib.Core.Path.{_≡_, sym, ap, _∙_}
 use mathlib.Core.Bool.{Bool, true, false, cond}
-use mathlib.Core.List.{List, _++_}
-use Prim.Native.Nat.{ℕ, _+_, _*_, _≤_}
+use mathlib.Core.List.{List}
+use Prim.Native.Nat.{ℕ, _≤_}
 use native.Mathlib.Omega.{arith}
 use borrow.Author.Tests.{not-true, not-false}
-use lib.ListN.{getD, drop}
-use Rattle.graph_rules.specs.Graph.{graphBuffer, graphFrom}
+use lib.ListN.{getD}
+use Rattle.graph_rules.specs.Graph.{graphFrom, rewritten}
 use Rattle.graph_rules.specs.Build.{mergeRound, mergesNone}
 use Rattle.graph_rules.proofs.Taken.{taken-few}
 use Rattle.merge.proofs.Rounds.{Merging, merging-none, merging-done, merging-less, merging-more}
 use Rattle.merge.proofs.merge.Statement.{statement}
 use Rattle.merge.proofs.merge.Tie as tie
-use Rattle.graph_rules.specs.Layout.{mostStates, graphSize}
+use Rattle.graph_rules.specs.Layout.{mostStates}
 
 abbrev Inv-loop : tie.InvT-loop
 Inv-loop graph₀ graph = Merging graph₀ graph
@@ -39,7 +39,7 @@ module _ (c : tie.After-merge-round Inv-loop μ-loop) where
   w = at .loop .graph
 
   abbrev round : List ℕ
-  round = graphBuffer (getD w 0 0) (mergeRound (graphFrom w)) ++ drop (graphSize (getD w 0 0)) w
+  round = rewritten mergeRound w
 
   merged-some : c .merge-round .result ≡ true → mergesNone (graphFrom w) ≡ false
   merged-some e = not-true _ (sym (c .merge-round .ensures .0) ∙ e)

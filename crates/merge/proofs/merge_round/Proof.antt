@@ -1,23 +1,23 @@
 -- The loop's invariant: the states passed are grouped with the lowest that equals each. The measure is what is left of the states. Assumes nothing.
 use mathlib.Core.Path.{_≡_, sym, ap, subst, _∙_}
 use mathlib.Core.Bool.{Bool, true, false, not, cond}
-use mathlib.Core.List.{List, _++_}
-use Prim.Native.Nat.{ℕ, _+_, _*_, _-_, _≤_, _<_}
+use mathlib.Core.List.{List}
+use Prim.Native.Nat.{ℕ, _-_, _≤_, _<_}
 use native.Mathlib.Omega.{arith}
 use borrow.Author.Needs.{needs}
 use borrow.Author.Tests.{eq-eqb, ne-eqb}
-use lib.ListN.{length, getD, drop}
+use lib.ListN.{length, getD}
 use Rattle.lists.specs.Lists.{distinct}
-use Rattle.graph_rules.specs.Graph.{Graph, same, graphBuffer, graphFits, graphFrom}
+use Rattle.graph_rules.specs.Graph.{Graph, same, writtenOn, graphFits, graphFrom}
 use Rattle.graph_rules.specs.Build.{mergeRound, mergesNone}
 use Rattle.graph_rules.proofs.Fits.{Root}
-use Rattle.graph_rules.proofs.Taken.{taken-few, taken-long, taken-root}
+use Rattle.graph_rules.proofs.Taken.{taken-root}
 use Rattle.graph_rules.proofs.Flat.{from-length}
 use Rattle.merge.specs.Equals.{Lowest}
 use Rattle.merge.proofs.Grouping.{Grouped, grouped-none, grouped-low, grouped-new, grouped-met, grouped-count, round-is, grouped-fitting}
 use Rattle.merge.proofs.merge_round.Statement.{statement}
 use Rattle.merge.proofs.merge_round.Tie as tie
-use Rattle.graph_rules.specs.Layout.{mostStates, graphSize}
+use Rattle.graph_rules.specs.Layout.{mostStates}
 
 abbrev Inv-loop : tie.InvT-loop
 Inv-loop graph n names₀ stay₀ k₀ next₀ names stay k next = (next ≤ n) × Grouped (graphFrom graph) next k names stay
@@ -34,18 +34,14 @@ w c = St c .args .graph .now
 abbrev g : tie.At-loop Inv-loop μ-loop → Graph
 g c = graphFrom (w c)
 
-size : (c : tie.At-loop Inv-loop μ-loop) → (c .before .word .result ≡ length (g c .states)) × (c .before .word .result ≤ mostStates) × (c .before .word .result ≡ getD (w c) 0 0)
-size c =
-    let a = c .before .word .ensures .0 in
-    let b = from-length (w c) in
-    let few = taken-few (w c) (St c .pre) in
-    (omega arith, omega arith, a)
+size : (c : tie.At-loop Inv-loop μ-loop) → c .before .states .result ≡ length (g c .states)
+size c = c .before .states .ensures .0 ∙ sym (from-length (w c))
 
 -- ---- a turn
 
 module _ (c : tie.In-loop Inv-loop μ-loop) where
   inside : (c .before .loop .next < length (g (c .before) .states)) × (c .before .loop .next < mostStates)
-  inside = let e = size (c .before) in (omega arith, omega arith)
+  inside = let e = size (c .before) in let few = c .before .before .states .ensures .1 in (omega arith, omega arith)
 
   low : c .before .loop .k ≤ c .before .loop .next
   low = let l = c .before .loop in grouped-low (g (c .before)) (l .next) (l .k) (l .names) (l .stay) (l .inv .1) (inside .0) (inside .1)
@@ -66,20 +62,20 @@ finished c =
 counted : (c : tie.After-loop Inv-loop μ-loop) → c .before .loop .k ≡ length (distinct same (g (c .before) .states))
 counted c = let l = c .before .loop in grouped-count (g (c .before)) (l .k) (l .names) (l .stay) (finished c)
 
-merges-none : (c : tie.After-loop Inv-loop μ-loop) → c .before .loop .k ≡ c .before .before .word .result → mergesNone (g (c .before)) ≡ true
+merges-none : (c : tie.After-loop Inv-loop μ-loop) → c .before .loop .k ≡ c .before .before .states .result → mergesNone (g (c .before)) ≡ true
 unfolding mergesNone
-merges-none c e = eq-eqb (length (distinct same (g (c .before) .states))) (length (g (c .before) .states)) (sym (counted c) ∙ e ∙ size (c .before) .0)
+merges-none c e = eq-eqb (length (distinct same (g (c .before) .states))) (length (g (c .before) .states)) (sym (counted c) ∙ e ∙ size (c .before))
 
-merges : (c : tie.After-loop Inv-loop μ-loop) → (c .before .loop .k ≡ c .before .before .word .result → ⊥) → mergesNone (g (c .before)) ≡ false
+merges : (c : tie.After-loop Inv-loop μ-loop) → (c .before .loop .k ≡ c .before .before .states .result → ⊥) → mergesNone (g (c .before)) ≡ false
 unfolding mergesNone
-merges c n = ne-eqb (length (distinct same (g (c .before) .states))) (length (g (c .before) .states)) (λ e. n (counted c ∙ e ∙ sym (size (c .before) .0)))
+merges c n = ne-eqb (length (distinct same (g (c .before) .states))) (length (g (c .before) .states)) (λ e. n (counted c ∙ e ∙ sym (size (c .before))))
 
 root-is : (v : List ℕ) → graphFits v ≡ true → Root (length (graphFrom v .states)) (graphFrom v .root)
 unfolding graphFrom
 root-is v taken = rw (from-length v) (taken-root v taken)
 
-word-requires : tie.Need-word-requires Inv-loop μ-loop
-word-requires c κs = omega (arith, taken-long (c .before .before .args .graph .now) (c .before .before .pre))
+states-requires : tie.Need-states-requires Inv-loop μ-loop
+states-requires c κs = c .before .before .pre
 
 loop-holds : tie.Need-loop-holds Inv-loop μ-loop
 loop-holds c = (omega arith, grouped-none _)
@@ -90,7 +86,7 @@ add-next c = omega arith
 first-equal-requires : tie.Need-first-equal-requires Inv-loop μ-loop
 first-equal-requires c κs =
     let t = c .before .before in
-    let e = size (t .before) in
+    let e = t .before .before .states .ensures .0 in
     (St (t .before) .pre, (omega arith, t .before .loop .inv .1 .twin))
 
 array-write-stay : tie.Need-array-write-stay Inv-loop μ-loop
@@ -155,7 +151,7 @@ returns : tie.Need-returns Inv-loop μ-loop
 returns c =
     let p = c .before .before in
     let b = merges-none (c .before) (c .if2 .taken) in
-    (ap not (sym b), (ap (λ (x : Bool). cond x (w p) (graphBuffer (getD (w p) 0 0) (mergeRound (g p)) ++ drop (graphSize (getD (w p) 0 0)) (w p))) (sym b), St p .pre))
+    (ap not (sym b), (ap (λ (x : Bool). cond x (w p) (writtenOn (getD (w p) 0 0) (mergeRound (g p)) (w p))) (sym b), St p .pre))
 
 relabel-requires : tie.Need-relabel-requires Inv-loop μ-loop
 relabel-requires c κs =
@@ -173,7 +169,7 @@ returns-2 c =
     let d = e .before in
     let p = d .before in
     let b = merges d (e .if2 .left) in
-    let buffer : Graph → List ℕ = λ x. graphBuffer (getD (w p) 0 0) x ++ drop (graphSize (getD (w p) 0 0)) (w p) in (
+    let buffer : Graph → List ℕ = λ x. writtenOn (getD (w p) 0 0) x (w p) in (
       ap not (sym b),
       (
         r .ensures .0 ∙ ap buffer (round-is (g p) (p .loop .k) (p .loop .names) (p .loop .stay) (finished d)) ∙ ap (λ (x : Bool). cond x (w p) (buffer (mergeRound (g p)))) (sym b),
@@ -187,7 +183,7 @@ merge-round-spec =
     (tie.spec
     Inv-loop
     μ-loop
-    word-requires
+    states-requires
     loop-holds
     add-next
     first-equal-requires

@@ -1,14 +1,14 @@
 -- The build, then its text: measured, and written only if it fits. Assumes nothing.
 use borrow.Author.Needs.{needs}
-use mathlib.Core.Path.{_≡_, sym, ap, _∙_}
+use mathlib.Core.Path.{_≡_, ap, _∙_}
 use mathlib.Core.List.{List}
 use Prim.Native.Nat.{ℕ, _≤_}
 use native.Mathlib.Omega.{arith}
 use lib.ListN.{length}
-use Rattle.graph.specs.New.{Outcome, imageOf}
-use Rattle.display.proofs.Calls.{Left, left-short, left-written}
+use Rattle.graph.specs.New.{imageOf}
+use Rattle.display.proofs.Calls.{left-short, left-written}
 use Rattle.display.proofs.Runs.{wrote-as, front-place}
-use Rattle.print.specs.Print.{space, printed, printCall}
+use Rattle.print.specs.Print.{mostPrinted, space, printed, printCall}
 use Rattle.print.specs.Parts.{Holds, answerText}
 use Rattle.print.proofs.Answers.{image-holds, image-text}
 use Rattle.print.proofs.print.Statement.{statement}
@@ -67,7 +67,7 @@ measured : (n : tie.After-none2) → n .before .text .result ≡ length (printed
 measured n =
     front-place _ (n .before .text .ensures .0) ∙ ap length (is-printed (build-of n))
 
-room : (n : tie.After-none2) → length (printed (image (build-of n))) ≤ 1019188
+room : (n : tie.After-none2) → length (printed (image (build-of n))) ≤ mostPrinted
 room n = let e = measured n in let r = n .before .text .ensures .1 in omega arith
 
 returns : tie.Need-returns

@@ -1,13 +1,12 @@
 -- By what the build answered. Assumes nothing.
 use borrow.Author.Needs.{needs}
-use mathlib.Core.Path.{_≡_, sym, subst, ap}
+use mathlib.Core.Path.{sym, subst, ap}
 use Prim.Native.Nat.{_≤_}
 use native.Mathlib.Omega.{arith}
 use lib.ListN.{length}
-use Rattle.graph.specs.declared.new.Answer.{Answer}
-use Rattle.display.specs.Text.{Wrote, Counts}
+use Rattle.graph.specs.declared.new.BuildAnswer.{BuildAnswer}
 use Rattle.display.proofs.Runs.{wrote-as, front-place}
-use Rattle.print.specs.Print.{refusedLine}
+use Rattle.print.specs.Print.{mostPrinted}
 use Rattle.print.specs.Parts.{Held, Holds, wordsText, answerText}
 use Rattle.print.proofs.Answers.{words-size, refused-size}
 use Rattle.print.proofs.text.Statement.{statement}
@@ -20,9 +19,9 @@ enum-known-answer c = search needs
 held : (a : tie.After-answer) → let s = a .before .before .before .before .before in Held (s .args .graph .now) (s .args .errors .now) (a .answer .given .0 .0 .errors)
 held a =
     let s = a .before .before .before .before .before in
-    subst (λ (x : Answer). Holds x (s .args .graph .now) (s .args .errors .now)) (a .answer .given .1) (s .pre .0)
+    subst (λ (x : BuildAnswer). Holds x (s .args .graph .now) (s .args .errors .now)) (a .answer .given .1) (s .pre .0)
 
-size : (a : tie.After-answer) → let s = a .before .before .before .before .before in length (wordsText (s .args .graph .now) (s .args .errors .now) (a .answer .given .0 .0 .errors)) ≤ 1019188
+size : (a : tie.After-answer) → let s = a .before .before .before .before .before in length (wordsText (s .args .graph .now) (s .args .errors .now) (a .answer .given .0 .0 .errors)) ≤ mostPrinted
 size a =
     let k = a .before .before in
     let s = k .before .before .before in
@@ -48,7 +47,7 @@ returns c =
     let r = c .before .before in
     let a = r .before .before .before in
     let s = a .before .before .before .before .before in (
-      wrote-as (ap (λ (x : Answer). answerText x (s .args .graph .now) (s .args .errors .now)) (sym (a .answer .given .1))) (r .built .ensures),
+      wrote-as (ap (λ (x : BuildAnswer). answerText x (s .args .graph .now) (s .args .errors .now)) (sym (a .answer .given .1))) (r .built .ensures),
       omega (arith, size a, front-place _ (r .built .ensures)),
     )
 
@@ -60,7 +59,7 @@ returns-2 c =
     let r = c .before .before in
     let a = r .before .before .before in
     let s = a .before .before .before .before .before in (
-      wrote-as (ap (λ (x : Answer). answerText x (s .args .graph .now) (s .args .errors .now)) (sym (a .answer2 .given .1))) (r .refused .ensures),
+      wrote-as (ap (λ (x : BuildAnswer). answerText x (s .args .graph .now) (s .args .errors .now)) (sym (a .answer2 .given .1))) (r .refused .ensures),
       omega (arith, refused-size (a .answer2 .given .0 .0) (omega arith), front-place _ (r .refused .ensures)),
     )
 

@@ -1,7 +1,7 @@
 -- The loops' invariants are those of `Looking`. The measures are the states left to try, the states not yet flagged with the stack, since each is put
 -- there once, and the states left to ask. Assumes nothing.
 use mathlib.Core.Path.{_≡_, sym, ap, _∙_}
-use mathlib.Core.Bool.{true, false}
+use mathlib.Core.Bool.{false}
 use mathlib.Core.List.{List, _++_}
 use mathlib.Core.Logic.{⊎-elim}
 use Prim.Native.Nat.{ℕ, _+_, _-_, _≤_, _<_}
@@ -12,10 +12,9 @@ use Rattle.lists.specs.Sets.{count}
 use Rattle.lists.proofs.Counting.{count-length}
 use Rattle.graph_rules.specs.Graph.{Graph, stateOf, leads, graphFrom}
 use Rattle.graph_rules.specs.Build.{kept}
-use Rattle.graph_rules.proofs.Taken.{taken-few, taken-long}
 use Rattle.graph_rules.proofs.Flat.{from-length}
 use Rattle.prune.specs.Matrix.{bitAt}
-use Rattle.prune.proofs.Backward.{seed, Search, search-done, found-none, found-there}
+use Rattle.prune.proofs.Backward.{Search, search-done, found-none, found-there}
 use Rattle.prune.proofs.Looking.{SeedsIn, Seeded, seeded-none, seeded-room, seeded-more, seeded-skip, Looked, stack-low, taken-below, looked-none, looked-room, looked-byte, looked-skip, looked-more, looked-all}
 use Rattle.prune.proofs.kept.Statement.{statement}
 use Rattle.prune.proofs.kept.Tie as tie
@@ -51,12 +50,8 @@ w c = St c .args .graph .now
 abbrev g : Seeding → Graph
 g c = graphFrom (w c)
 
-size : (c : Seeding) → (c .before .before .word .result ≡ length (g c .states)) × (c .before .before .word .result ≤ mostStates) × (c .before .before .word .result ≡ getD (w c) 0 0)
-size c =
-    let a = c .before .before .word .ensures .0 in
-    let b = from-length (w c) in
-    let few = taken-few (w c) (St c .pre) in
-    (omega arith, omega arith, a)
+size : (c : Seeding) → c .before .before .states .result ≡ length (g c .states)
+size c = c .before .before .states .ensures .0 ∙ sym (from-length (w c))
 
 -- the seeds: there is room for the state that the turn tries
 module _ (c : tie.In-loop Inv-loop μ-loop Inv-loop3 μ-loop3 Inv-loop2 μ-loop2) where
@@ -64,7 +59,7 @@ module _ (c : tie.In-loop Inv-loop μ-loop Inv-loop3 μ-loop3 Inv-loop2 μ-loop2
   at = c .before
 
   small : at .loop .next < mostStates
-  small = let e = size at .1 in omega arith
+  small = let e = at .before .before .states .ensures in omega arith
 
   room : at .loop .top < mostStates
   room = let l = at .loop in seeded-room (g at) (l .next) (l .out) (l .stack) (l .top) (l .inv .1) small
@@ -92,7 +87,7 @@ module _ (c : tie.In-loop3 Inv-loop μ-loop Inv-loop3 μ-loop3 Inv-loop2 μ-loop
   start = c .before .before .before .before .before
 
   parent-below : c .before .loop3 .p < mostStates
-  parent-below = let e = size start .1 in omega arith
+  parent-below = let e = start .before .before .states .ensures in omega arith
 
   room3 : getD (c .before .loop3 .out) (c .before .loop3 .p) false ≡ false → c .before .loop3 .top < mostStates
   room3 = looked-room _ _ _ (c .before .loop3 .p) _ _ (c .before .loop3 .out) _ (c .before .loop3 .top) (c .before .loop3 .inv) parent-below
@@ -105,8 +100,8 @@ tested c =
     let d = c .before .before in
     c .test-bit .ensures ∙ start d .before .parents .ensures (cur (turn d)) (d .before .loop3 .p) (cur-below (turn d)) (parent-below d)
 
-word-requires : tie.Need-word-requires Inv-loop μ-loop Inv-loop3 μ-loop3 Inv-loop2 μ-loop2
-word-requires c κs = omega (arith, taken-long (c .before .args .graph .now) (c .before .pre))
+states-requires : tie.Need-states-requires Inv-loop μ-loop Inv-loop3 μ-loop3 Inv-loop2 μ-loop2
+states-requires c κs = c .before .pre
 
 parents-requires : tie.Need-parents-requires Inv-loop μ-loop Inv-loop3 μ-loop3 Inv-loop2 μ-loop2
 parents-requires c κs = c .before .before .pre
@@ -114,11 +109,8 @@ parents-requires c κs = c .before .before .pre
 loop-holds : tie.Need-loop-holds Inv-loop μ-loop Inv-loop3 μ-loop3 Inv-loop2 μ-loop2
 loop-holds c = (omega arith, seeded-none _)
 
-add-next : tie.Need-add-next Inv-loop μ-loop Inv-loop3 μ-loop3 Inv-loop2 μ-loop2
-add-next c = omega arith
-
 is-seed-requires : tie.Need-is-seed-requires Inv-loop μ-loop Inv-loop3 μ-loop3 Inv-loop2 μ-loop2
-is-seed-requires c κs = (St (c .before) .pre, let e = size (c .before) in omega arith)
+is-seed-requires c κs = (St (c .before) .pre, let e = c .before .before .before .states .ensures .0 in omega arith)
 
 array-write-out : tie.Need-array-write-out Inv-loop μ-loop Inv-loop3 μ-loop3 Inv-loop2 μ-loop2
 array-write-out c = small (c .before .before)
@@ -135,9 +127,6 @@ array-write-stack c = room (c .before .before)
 add-top : tie.Need-add-top Inv-loop μ-loop Inv-loop3 μ-loop3 Inv-loop2 μ-loop2
 add-top c = let h = room (c .before .before) in omega arith
 
-loop-less : tie.Need-loop-less Inv-loop μ-loop Inv-loop3 μ-loop3 Inv-loop2 μ-loop2
-loop-less c = omega arith
-
 loop-again : tie.Need-loop-again Inv-loop μ-loop Inv-loop3 μ-loop3 Inv-loop2 μ-loop2
 loop-again c =
     let t = c .before .before in
@@ -146,9 +135,6 @@ loop-again c =
     let state : l .next < length (g (at t) .states) = omega arith in
     (omega arith, seeded-more (g (at t)) (l .next) (l .out) (l .stack) (l .top) (l .inv .1) (small t) state (sym (c .before .is-seed .ensures) ∙ c .if1 .taken))
 
-loop-less-2 : tie.Need-loop-less-2 Inv-loop μ-loop Inv-loop3 μ-loop3 Inv-loop2 μ-loop2
-loop-less-2 c = omega arith
-
 loop-again-2 : tie.Need-loop-again-2 Inv-loop μ-loop Inv-loop3 μ-loop3 Inv-loop2 μ-loop2
 loop-again-2 c =
     let l = at (c .before .before) .loop in
@@ -156,9 +142,6 @@ loop-again-2 c =
 
 loop2-holds : tie.Need-loop2-holds Inv-loop μ-loop Inv-loop3 μ-loop3 Inv-loop2 μ-loop2
 loop2-holds c = let l = c .before .loop in (l .inv .1 .search, λ s h. l .inv .1 .seeds s (omega arith))
-
-sub-top : tie.Need-sub-top Inv-loop μ-loop Inv-loop3 μ-loop3 Inv-loop2 μ-loop2
-sub-top c = omega arith
 
 mul-t : tie.Need-mul-t Inv-loop μ-loop Inv-loop3 μ-loop3 Inv-loop2 μ-loop2
 mul-t c = let h = low c in omega arith
@@ -184,7 +167,7 @@ loop2-less c =
 loop2-again : tie.Need-loop2-again Inv-loop μ-loop Inv-loop3 μ-loop3 Inv-loop2 μ-loop2
 loop2-again c =
     let m = c .before .loop3 in
-    let e = size (c .before .before .before .before .before) .0 in
+    let e = size (c .before .before .before .before .before) in
     (looked-all _ _ _ (m .p) _ _ (m .out) (m .stack) (m .top) (m .inv) (omega arith), m .inv .seeds)
 
 mul-byte : tie.Need-mul-byte Inv-loop μ-loop Inv-loop3 μ-loop3 Inv-loop2 μ-loop2
@@ -196,14 +179,8 @@ add-byte c = let h = cur-below (turn c) in let k = parent-below c in omega arith
 array-read-byte : tie.Need-array-read-byte Inv-loop μ-loop Inv-loop3 μ-loop3 Inv-loop2 μ-loop2
 array-read-byte c = let h = cur-below (turn c) in let k = parent-below c in omega arith
 
-sub-p : tie.Need-sub-p Inv-loop μ-loop Inv-loop3 μ-loop3 Inv-loop2 μ-loop2
-sub-p c = omega arith
-
 add-p : tie.Need-add-p Inv-loop μ-loop Inv-loop3 μ-loop3 Inv-loop2 μ-loop2
 add-p c = let k = parent-below (c .before) in omega arith
-
-loop3-less : tie.Need-loop3-less Inv-loop μ-loop Inv-loop3 μ-loop3 Inv-loop2 μ-loop2
-loop3-less c = omega arith
 
 loop3-again : tie.Need-loop3-again Inv-loop μ-loop Inv-loop3 μ-loop3 Inv-loop2 μ-loop2
 loop3-again c =
@@ -214,9 +191,6 @@ loop3-again c =
 
 add-p-2 : tie.Need-add-p-2 Inv-loop μ-loop Inv-loop3 μ-loop3 Inv-loop2 μ-loop2
 add-p-2 c = let k = parent-below (c .before) in omega arith
-
-test-bit-requires : tie.Need-test-bit-requires Inv-loop μ-loop Inv-loop3 μ-loop3 Inv-loop2 μ-loop2
-test-bit-requires c κs = omega arith
 
 array-read-if4 : tie.Need-array-read-if4 Inv-loop μ-loop Inv-loop3 μ-loop3 Inv-loop2 μ-loop2
 array-read-if4 c = parent-below (c .before .before .before)
@@ -239,20 +213,14 @@ add-top-2 : tie.Need-add-top-2 Inv-loop μ-loop Inv-loop3 μ-loop3 Inv-loop2 μ-
 add-top-2 c =
     let h = room3 (c .before .before .before .before) (not-true _ (c .if4 .taken)) in omega arith
 
-loop3-less-2 : tie.Need-loop3-less-2 Inv-loop μ-loop Inv-loop3 μ-loop3 Inv-loop2 μ-loop2
-loop3-less-2 c = omega arith
-
 loop3-again-2 : tie.Need-loop3-again-2 Inv-loop μ-loop Inv-loop3 μ-loop3 Inv-loop2 μ-loop2
 loop3-again-2 c =
     let t = c .before .before in
     let d = t .before .before in
     let m = d .before .loop3 in
-    let e = size (start d) .0 in
+    let e = size (start d) in
     let state : m .p < length (g (start d) .states) = omega arith in
     looked-more (g (start d)) _ _ (m .p) _ _ (m .out) (m .stack) (m .top) (m .inv) (parent-below d) state (not-true _ (c .if4 .taken)) (sym (tested t) ∙ c .before .if3 .taken)
-
-loop3-less-3 : tie.Need-loop3-less-3 Inv-loop μ-loop Inv-loop3 μ-loop3 Inv-loop2 μ-loop2
-loop3-less-3 c = omega arith
 
 loop3-again-3 : tie.Need-loop3-again-3 Inv-loop μ-loop Inv-loop3 μ-loop3 Inv-loop2 μ-loop2
 loop3-again-3 c =
@@ -271,9 +239,9 @@ returns c =
     let l = c .before .loop2 in
     let p = c .before .before .before in
     let e = size p in
-    let n : length (g p .states) ≡ getD (w p) 0 0 = omega arith in
+    let few = p .before .before .states .ensures .1 in
     search-done (g p) (l .out) (l .stack) (l .top) (omega arith) (c .loop2-test .left) (l .inv .0) (λ s h x. l .inv .1 s (omega arith) x)
-    ∙ ap (λ (k : ℕ). kept (g p) ++ replicate (mostStates - k) false) n
+    ∙ ap (λ (k : ℕ). kept (g p) ++ replicate (mostStates - k) false) (from-length (w p))
 
 pub kept-spec : {M : Type 1} → statement M
 kept-spec =
@@ -285,22 +253,22 @@ kept-spec =
     μ-loop3
     Inv-loop2
     μ-loop2
-    word-requires
+    states-requires
     parents-requires
     loop-holds
-    add-next
+    (λ c. omega arith)
     is-seed-requires
     array-write-out
     cast-stack
     mul-stack
     array-write-stack
     add-top
-    loop-less
+    (λ c. omega arith)
     loop-again
-    loop-less-2
+    (λ c. omega arith)
     loop-again-2
     loop2-holds
-    sub-top
+    (λ c. omega arith)
     mul-t
     array-read-t
     cast-t
@@ -310,20 +278,20 @@ kept-spec =
     mul-byte
     add-byte
     array-read-byte
-    sub-p
+    (λ c. omega arith)
     add-p
-    loop3-less
+    (λ c. omega arith)
     loop3-again
     add-p-2
-    test-bit-requires
+    (λ c κs. omega arith)
     array-read-if4
     array-write-out-2
     cast-stack-2
     mul-stack-2
     array-write-stack-2
     add-top-2
-    loop3-less-2
+    (λ c. omega arith)
     loop3-again-2
-    loop3-less-3
+    (λ c. omega arith)
     loop3-again-3
     returns)

@@ -1,14 +1,15 @@
--- The loops' invariant: the bits are of the edges passed. The measures are what is left of the states, and of the 257 edges. Assumes nothing.
+-- The loops' invariant: the bits are of the edges passed. The measures are what is left of the states, and of the edges. Assumes nothing.
 use mathlib.Core.Path.{_≡_, sym, subst, _∙_}
 use mathlib.Core.Option.{some}
-use Prim.Native.Nat.{ℕ, _≤_, _<_, _-_, _+_, _*_, _/_}
+use Prim.Native.Nat.{ℕ, _≤_, _<_, _-_, _+_}
 use native.Mathlib.Omega.{arith}
 use lib.ListN.{length, getD, set}
 use Rattle.lists.proofs.Bools.{none-some}
 use Rattle.graph_rules.specs.Graph.{Graph, graphFrom, to}
-use Rattle.graph_rules.proofs.Taken.{taken-few, taken-long}
+use Rattle.graph_rules.proofs.Taken.{taken-few}
 use Rattle.graph_rules.proofs.Flat.{from-length}
 use Rattle.words.proofs.GraphWords.{from-edge, edge-none, edge-some}
+use Rattle.prune.specs.Matrix.{byteOf}
 use Rattle.prune.proofs.BitRows.{Matrix, parents-none, parents-skip, parents-set, parents-row, parents-all}
 use Rattle.prune.proofs.parents.Statement.{statement}
 use Rattle.prune.proofs.parents.Tie as tie
@@ -34,7 +35,7 @@ g c = graphFrom (St c .args .graph .now)
 
 inside : (c : tie.In-loop Inv-loop2 μ-loop2 Inv-loop μ-loop) → (c .before .loop .p < getD (St (c .before) .args .graph .now) 0 0) × (c .before .loop .p < mostStates)
 inside c =
-    let e = c .before .before .word .ensures .0 in
+    let e = c .before .before .states .ensures .0 in
     let few = taken-few (St (c .before) .args .graph .now) (St (c .before) .pre) in
     (omega arith, omega arith)
 
@@ -48,8 +49,8 @@ led c =
     let few = taken-few w (St p .pre) in
     (e, omega arith)
 
-word-requires : tie.Need-word-requires Inv-loop2 μ-loop2 Inv-loop μ-loop
-word-requires c κs = omega (arith, taken-long (c .before .args .graph .now) (c .before .pre))
+states-requires : tie.Need-states-requires Inv-loop2 μ-loop2 Inv-loop μ-loop
+states-requires c κs = c .before .pre
 
 loop-holds : tie.Need-loop-holds Inv-loop2 μ-loop2 Inv-loop μ-loop
 loop-holds c = (omega arith, parents-none _)
@@ -89,7 +90,7 @@ loop2-again c =
     let l = t .before .before .before .loop2 in
     let p = t .before .before .before .before in (
       omega arith,
-      subst (λ (x : ℕ). Matrix (g (p .before)) (p .before .loop .p) (l .c + 1) (set (l .out) (128 * t .before .target .result + p .before .loop .p / 8) x)) (sym (c .with-bit .ensures))
+      subst (λ (x : ℕ). Matrix (g (p .before)) (p .before .loop .p) (l .c + 1) (set (l .out) (byteOf (t .before .target .result) (p .before .loop .p)) x)) (sym (c .with-bit .ensures))
           (parents-set (g (p .before)) (p .before .loop .p) (l .c) (l .out) (l .inv .1) (t .before .target .result) (led t .1) (inside p .1) (led t .0)),
     )
 
@@ -122,7 +123,7 @@ returns : tie.Need-returns Inv-loop2 μ-loop2 Inv-loop μ-loop
 returns c =
     let p = c .before in
     let w = St p .args .graph .now in
-    let e : p .loop .p ≡ length (g p .states) = let a = p .before .word .ensures .0 in let b = from-length w in omega arith in
+    let e : p .loop .p ≡ length (g p .states) = let a = p .before .states .ensures .0 in let b = from-length w in omega arith in
     parents-all (g p) (p .loop .out) (subst (λ (k : ℕ). Matrix (g p) k 0 (p .loop .out)) e (p .loop .inv .1))
 
 pub parents-spec : {M : Type 1} → statement M
@@ -133,7 +134,7 @@ parents-spec =
     μ-loop2
     Inv-loop
     μ-loop
-    word-requires
+    states-requires
     loop-holds
     loop2-holds
     target-requires

@@ -3,11 +3,11 @@ use mathlib.Core.Path.{_≡_, ap, _∙_}
 use mathlib.Core.Bool.{Bool, true, false}
 use mathlib.Core.List.{List, _++_}
 use mathlib.Core.Option.{Option}
-use Prim.Native.Nat.{ℕ, _+_, _*_, _-_}
+use Prim.Native.Nat.{ℕ, _-_}
 use borrow.Author.Needs.{needs}
-use lib.ListN.{getD, drop, replicate}
+use lib.ListN.{getD, replicate}
 use Rattle.lists.specs.Lists.{select, numberFrom}
-use Rattle.graph_rules.specs.Graph.{Graph, graphBuffer, graphFits, graphFrom}
+use Rattle.graph_rules.specs.Graph.{Graph, writtenOn, graphFits, graphFrom}
 use Rattle.graph_rules.specs.Build.{kept, relabel}
 use Rattle.graph_rules.proofs.Taken.{taken-root}
 use Rattle.graph_rules.proofs.Flat.{from-length}
@@ -15,7 +15,7 @@ use Rattle.relabel.specs.Names.{namesOf, Fitting}
 use Rattle.prune.proofs.Pruning.{prune-is, prune-fitting}
 use Rattle.prune.proofs.prune.Statement.{statement}
 use Rattle.prune.proofs.prune.Tie as tie
-use Rattle.graph_rules.specs.Layout.{mostStates, graphSize}
+use Rattle.graph_rules.specs.Layout.{mostStates}
 
 -- the names are the numbers of the kept states
 names-are : (c : tie.After-numbered) → let g = graphFrom (c .before .before .before .before .before .args .graph .now) in
@@ -48,7 +48,7 @@ returns c =
     let t = c .before .before .before .before .before .before in
     let w = t .before .before .before .before .before .args .graph .now in (
       r .ensures .0
-          ∙ ap (λ (g : Graph). graphBuffer (getD w 0 0) g ++ drop (graphSize (getD w 0 0)) w)
+          ∙ ap (λ (g : Graph). writtenOn (getD w 0 0) g w)
           (ap (λ (k : List Bool). relabel (namesOf (t .numbered .result)) (select k (graphFrom w .states)) (graphFrom w .root)) (t .before .before .kept .ensures)
           ∙ prune-is (graphFrom w) (mostStates - getD w 0 0) (namesOf (t .numbered .result)) (names-are t)),
       r .ensures .1,

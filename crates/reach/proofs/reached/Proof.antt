@@ -19,7 +19,7 @@ use Rattle.legal.proofs.Steps.{Found, found-start, found-below, found-step, rea
 use Rattle.reach.proofs.reached.Statement.{statement}
 use Rattle.reach.proofs.reached.Tie as tie
 
--- one state marked, and alone on the stack; of any size, so that no list of 1,024 is written out
+-- one state marked, and alone on the stack; of any size, so that no list of that size is written out
 begun : (tgt : ℕ → ℕ → ℕ) (cap : ℕ) (Good : ℕ → Type 0) (s : ℕ) → s < cap → Good s
     → let marked = set (replicate cap false) s true in Work tgt stepCount cap Good (λ k. ⊥) marked (set (replicate cap 0) 0 s) 1 × In marked s
 begun tgt cap Good s h g = (

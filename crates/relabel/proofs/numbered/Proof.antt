@@ -1,4 +1,4 @@
--- The loop's invariant: the members passed have their numbers, everything else is 65,535. The measure is what is left of the 1,024. Assumes nothing.
+-- The loop's invariant: the members passed have their numbers, everything else is NO_NAME. The measure is what is left of the numbers. Assumes nothing.
 use mathlib.Core.Path.{_≡_, subst}
 use Prim.Native.Nat.{ℕ, _≤_, _-_}
 use native.Mathlib.Omega.{arith}

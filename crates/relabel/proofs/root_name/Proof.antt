@@ -1,4 +1,4 @@
--- The name is read, and 65,535 is none. Assumes nothing.
+-- The name is read, and NO_NAME is none. Assumes nothing.
 use mathlib.Core.Path.{sym, ap, _∙_}
 use mathlib.Core.Option.{Option, Option·getD}
 use Prim.Native.Nat.{ℕ}

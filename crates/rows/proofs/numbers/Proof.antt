@@ -8,12 +8,13 @@ use lib.ListN.{length, getD, set, take, replicate, length-set, length-replicate,
 use lib.Seq.{getD-set-same, getD-set-other}
 use Rattle.lists.specs.Sets.{count}
 use Rattle.lists.proofs.Worklist.{count-take-in, count-take-out}
+use Rattle.graph_rules.specs.Layout.{mostStates}
 use Rattle.rows.proofs.numbers.Statement.{statement}
 use Rattle.rows.proofs.numbers.Tie as tie
 
 abbrev Inv-loop : tie.InvT-loop
 Inv-loop set n out₀ k₀ s₀ out k s =
-    (s ≤ n) × (k ≤ s) × (length out ≡ 1025) × (k ≡ count (take s set)) × ((j : ℕ) → j < s + 1 → getD out j 0 ≡ count (take j set))
+    (s ≤ n) × (k ≤ s) × (length out ≡ mostStates + 1) × (k ≡ count (take s set)) × ((j : ℕ) → j < s + 1 → getD out j 0 ≡ count (take j set))
 
 abbrev μ-loop : tie.MeasureT-loop
 μ-loop set n out₀ k₀ s₀ out k s = n - s
@@ -31,10 +32,10 @@ number-is c =
 
 loop-holds : tie.Need-loop-holds Inv-loop μ-loop
 loop-holds c =
-    let first : (j : ℕ) → j < 0 + 1 → getD (replicate 1025 0) j 0 ≡ count (take j (c .args .set .now)) = λ j h.
+    let first : (j : ℕ) → j < 0 + 1 → getD (replicate (mostStates + 1) 0) j 0 ≡ count (take j (c .args .set .now)) = λ j h.
     let e : j ≡ 0 = omega arith in
-    ap (λ (i : ℕ). getD (replicate 1025 0) i 0) e ∙ getD-replicate 1025 0 0 0 (omega arith) ∙ ap (λ (i : ℕ). count (take i (c .args .set .now))) (sym e) in
-    (omega arith, omega arith, length-replicate {A = ℕ} 1025 0, refl, first)
+    ap (λ (i : ℕ). getD (replicate (mostStates + 1) 0) i 0) e ∙ getD-replicate (mostStates + 1) 0 0 0 (omega arith) ∙ ap (λ (i : ℕ). count (take i (c .args .set .now))) (sym e) in
+    (omega arith, omega arith, length-replicate {A = ℕ} (mostStates + 1) 0, refl, first)
 
 element-copy-out-if1 : tie.Need-element-copy-out-if1 Inv-loop μ-loop
 element-copy-out-if1 c = omega arith

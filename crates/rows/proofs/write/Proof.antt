@@ -11,7 +11,7 @@ use Rattle.lists.specs.Sets.{count}
 use Rattle.graph_rules.specs.Layout.{graphPlace}
 use Rattle.legal.specs.Conditions.{states, Sized}
 use Rattle.legal.proofs.Legal.{legal-sized}
-use Rattle.rows.proofs.FirstRows.{Written, written-length, written-same, written-none, written-in, written-out, written-all, states-are}
+use Rattle.rows.proofs.FirstRows.{Written, written-length, written-same, written-none, written-in, written-out, written-all}
 use Rattle.rows.proofs.write.Statement.{statement}
 use Rattle.rows.proofs.write.Tie as tie
 
@@ -152,12 +152,10 @@ returns c =
     let head-is : head ≡ count (take n (reach at)) = ap (λ (x : ℕ). getD new x 0) (numbered at .before .states .ensures .0) ∙ new-is at n (omega arith) in
     let written = written-same (sets (a .args .graph .now) 0 (head ∷ (root ∷ []))) (l .graph) (l .k) n (sym (at .before .before .before .set-head .ensures)) refl refl all (l .inv .1) in
     let from : c .before .before .before .before .place .result ≡ graphPlace (l .k) 0 = omega arith in
-    let to : c .before .before .before .place2 .result ≡ graphPlace n 0 = omega arith in (
-      written .number ∙ sym (states-are (words at) (a .pre .0) (a .args .start) (a .pre .1 .0) (reach at) (a .pre .1 .1 .0)),
-      zeroed (l .graph) from to (c .before .before .zero .ensures)
-          (written-all (words at) (a .pre .0) (a .args .start) (a .pre .1 .0) (reach at) (a .pre .1 .1 .0) (a .args .graph .now) (l .graph) (l .k) head root
-          head-is (new-is at (a .args .start) (omega arith)) (omega arith) written),
-    )
+    let to : c .before .before .before .place2 .result ≡ graphPlace n 0 = omega arith in
+    zeroed (l .graph) from to (c .before .before .zero .ensures)
+    (written-all (words at) (a .pre .0) (a .args .start) (a .pre .1 .0) (reach at) (a .pre .1 .1 .0) (a .args .graph .now) (l .graph) (l .k) head root head-is
+    (new-is at (a .args .start) (omega arith)) (omega arith) written)
 
 pub write-spec : {M : Type 1} → statement M
 write-spec =

@@ -1,13 +1,13 @@
--- The first c words of the row stand in their places, and the others are as found. The measure is the targets that are left. Assumes nothing.
+-- The first c words of the row stand in their places, and the others are unchanged. The measure is the targets that are left. Assumes nothing.
 use mathlib.Core.Path.{_≡_, refl, sym, ap, _∙_}
 use mathlib.Core.List.{List}
-use Prim.Native.Nat.{ℕ, _+_, _-_, _*_, _≤_, _<_}
+use Prim.Native.Nat.{ℕ, _+_, _-_, _≤_, _<_}
 use native.Mathlib.Omega.{arith}
-use lib.ListN.{length, getD, set, take, length-set}
+use lib.ListN.{length, getD, set, take}
 use lib.Seq.{sets, take-all}
 use Rattle.lists.proofs.Runs.{sets-take}
 use Rattle.graph_rules.specs.Table.{tableOf}
-use Rattle.graph_rules.specs.Layout.{stepCount, mostStates, rowWords, graphPlace, noLeaf, marksWord, rowPlace}
+use Rattle.graph_rules.specs.Layout.{stepCount, mostStates, rowWords, marksPlace, graphPlace, noLeaf, marksWord, rowPlace}
 use Rattle.legal.specs.Conditions.{targetWord, Sized}
 use Rattle.rows.specs.Renumbering.{newTarget, newRow}
 use Rattle.legal.proofs.Legal.{legal-sized, legal-means}
@@ -73,17 +73,11 @@ loop-holds c = (omega arith, refl, refl)
 row-word-requires : tie.Need-row-word-requires Inv-loop μ-loop
 row-word-requires c κs = let z = sized (c .before) in omega arith
 
-place-requires : tie.Need-place-requires Inv-loop μ-loop
-place-requires c κs = omega arith
-
 new-target-requires : tie.Need-new-target-requires Inv-loop μ-loop
 new-target-requires c κs = omega (arith, target-below (c .before))
 
-mul-graph : tie.Need-mul-graph Inv-loop μ-loop
-mul-graph c = omega arith
-
-slice-write-graph : tie.Need-slice-write-graph Inv-loop μ-loop
-slice-write-graph c = omega arith
+set-word-requires : tie.Need-set-word-requires Inv-loop μ-loop
+set-word-requires c κs = omega arith
 
 add-c : tie.Need-add-c Inv-loop μ-loop
 add-c c = omega arith
@@ -93,62 +87,48 @@ loop-less c = omega arith
 
 loop-again : tie.Need-loop-again Inv-loop μ-loop
 loop-again c =
-    let at = c .before .before .before .before in
+    let put = c .before .before in
+    let t = put .before .before .before in
+    let at = t .before .before in
     let g = begin at .args .graph .now in
     let p = graphPlace (begin at .args .k) 0 in
-    let i = c .before .place .result in
-    let v = c .new-target .result in
     let l = long at in (
       omega arith,
-      length-set (at .loop .graph) i v ∙ at .loop .inv .1,
-      ap (λ (x : List ℕ). set x i v) (at .loop .inv .2)
-          ∙ ap (λ (x : ℕ). set (sets g p (take (at .loop .c) (row at))) i x) (c .new-target .ensures ∙ word-is (c .before .before))
-          ∙ sets-take g p (row at) (at .loop .c) 0 i (omega arith) (omega arith),
+      put .set-word .kept .0 ∙ at .loop .inv .1,
+      put .set-word .ensures
+          ∙ (λ i. set (at .loop .inv .2 i) (graphPlace (begin at .args .k) (at .loop .c)) ((put .before .new-target .ensures ∙ word-is t) i))
+          ∙ sets-take g p (row at) (at .loop .c) 0 _ (omega arith) (omega arith),
     )
-
-place-requires-2 : tie.Need-place-requires-2 Inv-loop μ-loop
-place-requires-2 c κs = omega arith
 
 leaf-of-requires : tie.Need-leaf-of-requires Inv-loop μ-loop
 leaf-of-requires c κs = let b = begin (c .before .before) in (b .pre .0, b .pre .1 .0)
 
-mul-graph-2 : tie.Need-mul-graph-2 Inv-loop μ-loop
-mul-graph-2 c = omega arith
-
-add-graph : tie.Need-add-graph Inv-loop μ-loop
-add-graph c =
-    let at = c .before .before .before in let e = leaf-low (words at) (begin at .pre .0) (begin at .args .s) in omega arith
-
-cast-graph : tie.Need-cast-graph Inv-loop μ-loop
-cast-graph c =
-    let at = c .before .before .before in let e = leaf-low (words at) (begin at .pre .0) (begin at .args .s) in omega arith
-
-mul-graph-3 : tie.Need-mul-graph-3 Inv-loop μ-loop
-mul-graph-3 c = omega arith
-
-slice-write-graph-2 : tie.Need-slice-write-graph-2 Inv-loop μ-loop
-slice-write-graph-2 c = omega arith
+set-marks-requires : tie.Need-set-marks-requires Inv-loop μ-loop
+set-marks-requires c κs =
+    let at = c .before .before .before in
+    let low = leaf-low (words at) (begin at .pre .0) (begin at .args .s) in
+    let leaf = c .leaf-of .ensures in
+    (omega arith, ((omega arith, omega arith), omega arith))
 
 same-length : tie.Need-same-length Inv-loop μ-loop
 same-length c =
-    let at = c .before .before .before in length-set (at .loop .graph) (c .before .place2 .result) (marksWord (c .leaf-of .result) noLeaf) ∙ at .loop .inv .1
+    let put = c .before .before in
+    put .set-marks .kept .0 ∙ put .before .before .before .before .loop .inv .1
 
 returns : tie.Need-returns Inv-loop μ-loop
 returns c =
-    let at = c .before .before .before in
+    let put = c .before .before in
+    let at = put .before .before .before .before in
     let g = begin at .args .graph .now in
     let p = graphPlace (begin at .args .k) 0 in
-    let i = c .before .place2 .result in
-    let v = marksWord (c .leaf-of .result) noLeaf in
     let l = long at in
-    let whole : take (at .loop .c + 1) (row at) ≡ row at = take-all (at .loop .c + 1) (row at) (omega arith) in
-    let last : at .loop .c ≡ stepCount = omega arith in
-    ap (λ (x : List ℕ). set x i v) (at .loop .inv .2)
-    ∙ ap (λ (x : ℕ). set (sets g p (take (at .loop .c) (row at))) i x)
-    (ap (λ (x : ℕ). marksWord x noLeaf) (c .leaf-of .ensures) ∙ sym (row-marks (words at) (sized at) (begin at .args .numbers .now) (begin at .args .s) (begin at .pre .1 .0))
-    ∙ ap (λ (x : ℕ). getD (row at) x 0) (sym last))
-    ∙ sets-take g p (row at) (at .loop .c) 0 i (omega arith) (omega arith)
-    ∙ ap (sets g p) whole
+    let last : at .loop .c ≡ marksPlace = omega arith in
+    let marks : marksWord (put .before .leaf-of .result) noLeaf ≡ getD (row at) marksPlace 0 =
+    ap (λ (x : ℕ). marksWord x noLeaf) (put .before .leaf-of .ensures) ∙ sym (row-marks (words at) (sized at) (begin at .args .numbers .now) (begin at .args .s) (begin at .pre .1 .0)) in
+    put .set-marks .ensures
+    ∙ (λ i. set ((at .loop .inv .2 ∙ ap (λ (c : ℕ). sets g p (take c (row at))) last) i) (graphPlace (begin at .args .k) marksPlace) (marks i))
+    ∙ sets-take g p (row at) marksPlace 0 _ (omega arith) (omega arith)
+    ∙ ap (sets g p) (take-all (marksPlace + 1) (row at) (omega arith))
 
 pub write-row-spec : {M : Type 1} → statement M
 write-row-spec =
@@ -159,19 +139,12 @@ write-row-spec =
     leaves-requires
     loop-holds
     row-word-requires
-    place-requires
     new-target-requires
-    mul-graph
-    slice-write-graph
+    set-word-requires
     add-c
     loop-less
     loop-again
-    place-requires-2
     leaf-of-requires
-    mul-graph-2
-    add-graph
-    cast-graph
-    mul-graph-3
-    slice-write-graph-2
+    set-marks-requires
     same-length
     returns)

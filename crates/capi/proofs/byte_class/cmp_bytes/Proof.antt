@@ -3,7 +3,6 @@ use borrow.Author.Needs.{needs}
 use mathlib.Core.Path.{_≡_, sym, ap, _∙_}
 use mathlib.Core.List.{List, _++_}
 use Prim.Native.Nat.{ℕ, _+_}
-use native.Mathlib.Omega.{arith}
 use lib.ListN.{length, replicate, length-replicate}
 use Rattle.capi.proofs.Blocks.{two-laid}
 use Rattle.capi.proofs.byte_class.cmp_bytes.Statement.{statement}

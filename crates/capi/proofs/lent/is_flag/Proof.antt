@@ -2,7 +2,7 @@
 use borrow.Author.Needs.{needs}
 use borrow.Author.Tests.{eq-eqb}
 use mathlib.Core.Path.{sym, ap}
-use mathlib.Core.Bool.{Bool, not}
+use mathlib.Core.Bool.{not}
 use lib.ListN.{List·getD-eq-default}
 use Rattle.capi.proofs.lent.is_flag.Statement.{statement}
 use Rattle.capi.proofs.lent.is_flag.Tie as tie

@@ -6,7 +6,7 @@ use Prim.Native.Nat.{ℕ}
 use mathlib.Core.List.{List}
 use Rattle.mask_store.specs.declared.MaskStore.{MaskStore}
 use Rattle.mask_store.specs.Masks.{storeOf, render}
-use Rattle.capi.specs.Lent.{Put, put}
+use Rattle.capi.specs.Lent.{put}
 use Rattle.capi.specs.Stores.{flat}
 use Rattle.capi.proofs.Blocks.{put-parts}
 use Rattle.capi.proofs.HeldStores.{render-none, render-refused, render-taken}

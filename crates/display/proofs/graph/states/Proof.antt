@@ -3,9 +3,9 @@ use mathlib.Core.Path.{_≡_, sym, subst}
 use mathlib.Core.List.{List, _++_}
 use Prim.Native.Nat.{ℕ, _+_, _≤_, _<_, _-_}
 use native.Mathlib.Omega.{arith}
+use borrow.Author.Needs.{needs}
 use lib.ListN.{getD}
 use Rattle.graph_rules.specs.Graph.{graphFrom}
-use Rattle.graph_rules.proofs.Taken.{taken-long}
 use Rattle.display.specs.Text.{bytes, Counts}
 use Rattle.display.specs.Display.{displayed}
 use Rattle.display.proofs.Runs.{Underway, wrote-none, wrote-as, wrote-then, wrote-length, starts, ends, goes, underway-as, part-counts, counts-first, counts-then}
@@ -19,13 +19,13 @@ Inv-loop out₀ at graph n next₀ s₀ out next s = (s ≤ n) × Underway out�
 abbrev μ-loop : tie.MeasureT-loop
 μ-loop out₀ at graph n next₀ s₀ out next s = n - s
 
-word-requires : tie.Need-word-requires Inv-loop μ-loop
-word-requires c κs = let s = c .before .before in omega (arith, taken-long (s .args .graph .now) (s .pre .0))
+states-requires : tie.Need-states-requires Inv-loop μ-loop
+states-requires c κs = search needs
 
 returns : tie.Need-returns Inv-loop μ-loop
 returns c =
     let w = c .before in
-    wrote-as (sym (display-none (w .before .before .before .args .graph .now) (omega (arith, w .word .ensures .0)))) (wrote-none _ _)
+    wrote-as (sym (display-none (w .before .before .before .args .graph .now) (omega (arith, w .states .ensures .0)))) (wrote-none _ _)
 
 abbrev start : tie.Else1 Inv-loop μ-loop → tie.Start Inv-loop μ-loop
 start c = c .before .before .before .before
@@ -35,7 +35,7 @@ words c = start c .args .graph .now
 
 -- there is a state
 some : (c : tie.Else1 Inv-loop μ-loop) → 0 < getD (words c) 0 0
-some c = omega (arith, c .before .word .ensures .0, c .if1 .left)
+some c = omega (arith, c .before .states .ensures .0, c .if1 .left)
 
 -- the first state, and the rest
 first : (c : tie.Else1 Inv-loop μ-loop) → displayed (graphFrom (words c)) ≡ textOf (words c) 0 ++ listed (words c) 1
@@ -50,7 +50,7 @@ state-requires c κs =
     (start e .pre .0, (some e, counts-first (start e .args .at) (textOf (words e) 0) (listed (words e) 1) (first-counts e)))
 
 loop-holds : tie.Need-loop-holds Inv-loop μ-loop
-loop-holds c = let e = c .before .before .before .before in (omega (arith, some e, e .before .word .ensures .0), starts _ _ _)
+loop-holds c = let e = c .before .before .before .before in (omega (arith, some e, e .before .states .ensures .0), starts _ _ _)
 
 abbrev first-of : tie.At-loop Inv-loop μ-loop → tie.After-state Inv-loop μ-loop
 first-of l = l .before .before .before
@@ -64,8 +64,8 @@ counts l =
     let e = else-of l in
     counts-then (start e .args .at) (textOf (words e) 0) (listed (words e) 1) (first-counts e) (first-of l .state .ensures)
 
-below : (l : tie.At-loop Inv-loop μ-loop) → l .loop .s < else-of l .before .word .result → l .loop .s < getD (words (else-of l)) 0 0
-below l h = omega (arith, else-of l .before .word .ensures .0)
+below : (l : tie.At-loop Inv-loop μ-loop) → l .loop .s < else-of l .before .states .result → l .loop .s < getD (words (else-of l)) 0 0
+below l h = omega (arith, else-of l .before .states .ensures .0)
 
 -- state s is next
 ahead : (l : tie.At-loop Inv-loop μ-loop) → l .loop .s < getD (words (else-of l)) 0 0
@@ -99,7 +99,7 @@ returns-2 c =
     let e = else-of l in
     wrote-as (sym (first e))
     (wrote-then (first-of l .state .ensures)
-    (ends (underway-as (listed-none (words e) (l .loop .s) (omega (arith, e .before .word .ensures .0))) (l .loop .inv .1))))
+    (ends (underway-as (listed-none (words e) (l .loop .s) (omega (arith, e .before .states .ensures .0))) (l .loop .inv .1))))
 
 same-length : tie.Need-same-length Inv-loop μ-loop
 same-length c = wrote-length (returns-2 c)
@@ -110,7 +110,7 @@ states-spec =
     (tie.spec
     Inv-loop
     μ-loop
-    word-requires
+    states-requires
     returns
     state-requires
     loop-holds

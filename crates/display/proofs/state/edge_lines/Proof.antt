@@ -4,10 +4,11 @@ use mathlib.Core.Bool.{false}
 use mathlib.Core.List.{List, _++_}
 use Prim.Native.Nat.{ℕ, _+_, _≤_, _<_, _-_}
 use native.Mathlib.Omega.{arith}
+use borrow.Author.Needs.{needs}
 use lib.ListN.{getD}
 use Rattle.classes.specs.Classes.{Class}
 use Rattle.graph_rules.specs.Graph.{State, stateOf, graphFrom}
-use Rattle.graph_rules.proofs.Taken.{taken-long, taken-few}
+use Rattle.graph_rules.proofs.Taken.{taken-few}
 use Rattle.display.specs.Text.{bytes, Counts}
 use Rattle.display.specs.Display.{edgeLine}
 use Rattle.edges.specs.Edges.{classTo, leadsTo}
@@ -33,8 +34,8 @@ words s = s .args .graph .now
 abbrev st : tie.Start Inv-loop μ-loop → State
 st s = stateOf (graphFrom (words s)) (s .args .s)
 
-word-requires : tie.Need-word-requires Inv-loop μ-loop
-word-requires c κs = let s = c .before .before in omega (arith, taken-long (words s) (s .pre .0))
+states-requires : tie.Need-states-requires Inv-loop μ-loop
+states-requires c κs = search needs
 
 targets-requires : tie.Need-targets-requires Inv-loop μ-loop
 targets-requires c κs = let s = c .before .before .before in (s .pre .0, s .pre .1 .0)
@@ -46,8 +47,8 @@ add-u : tie.Need-add-u Inv-loop μ-loop
 add-u c = omega arith
 
 -- u is the number of a state
-below : (l : tie.At-loop Inv-loop μ-loop) → l .loop .u < l .before .before .word .result → l .loop .u < getD (words (start l)) 0 0
-below l h = omega (arith, l .before .before .word .ensures .0)
+below : (l : tie.At-loop Inv-loop μ-loop) → l .loop .u < l .before .before .states .result → l .loop .u < getD (words (start l)) 0 0
+below l h = omega (arith, l .before .before .states .ensures .0)
 
 array-read-if1 : tie.Need-array-read-if1 Inv-loop μ-loop
 array-read-if1 c = let s = start (c .before) in omega (arith, below (c .before) (omega arith), taken-few (words s) (s .pre .0))
@@ -113,7 +114,7 @@ returns c =
     let l = c .before in
     let n = getD (words (start l)) 0 0 in
     wrote-as (sym (lined-all (st (start l)) n))
-    (ends (underway-as (lined-none (st (start l)) n (l .loop .u) (omega (arith, l .before .before .word .ensures .0))) (l .loop .inv .1)))
+    (ends (underway-as (lined-none (st (start l)) n (l .loop .u) (omega (arith, l .before .before .states .ensures .0))) (l .loop .inv .1)))
 
 same-length : tie.Need-same-length Inv-loop μ-loop
 same-length c = wrote-length (returns c)
@@ -124,7 +125,7 @@ edge-lines-spec =
     (tie.spec
     Inv-loop
     μ-loop
-    word-requires
+    states-requires
     targets-requires
     loop-holds
     add-u

@@ -2,7 +2,7 @@
 use borrow.Author.Needs.{needs}
 use mathlib.Core.Path.{_≡_, refl, sym, ap}
 use mathlib.Core.List.{_++_}
-use Prim.Native.Nat.{ℕ, _+_, _/_, _%_}
+use Prim.Native.Nat.{ℕ, _+_}
 use native.Mathlib.Omega.{arith}
 use lib.ListN.{length, length-append}
 use Rattle.graph_rules.specs.Graph.{orNone}
@@ -11,7 +11,7 @@ use Rattle.display.specs.Display.{markText, firstLine}
 use Rattle.display.proofs.Runs.{wrote-then, wrote-as}
 use Rattle.display.proofs.state.first_line.Statement.{statement}
 use Rattle.display.proofs.state.first_line.Tie as tie
-use Rattle.graph_rules.specs.Layout.{noLeaf, acceptIn, earlyIn}
+use Rattle.graph_rules.specs.Layout.{noLeaf}
 
 -- the parts: state s with the leaves a and e, or none
 parts : (s a e : ℕ) → firstLine s (orNone noLeaf a) (orNone noLeaf e)
@@ -19,9 +19,9 @@ parts : (s a e : ℕ) → firstLine s (orNone noLeaf a) (orNone noLeaf e)
 unfolding firstLine
 parts s a e = refl
 
-size : (s : tie.Start) → length (firstLine (s .args .s) (orNone noLeaf (acceptIn (s .args .marks))) (orNone noLeaf (earlyIn (s .args .marks))))
-    ≡ 24 + (length (decimal (s .args .s)) + (length (markText (bytes "accept(") (orNone noLeaf (acceptIn (s .args .marks)))) + length (markText (bytes "early(") (orNone noLeaf (earlyIn (s .args .marks))))))
-size s = omega (arith, simp length-append at (ap length (parts (s .args .s) (acceptIn (s .args .marks)) (earlyIn (s .args .marks)))))
+size : (s : tie.Start) → length (firstLine (s .args .s) (orNone noLeaf (s .args .accept)) (orNone noLeaf (s .args .early)))
+    ≡ 24 + (length (decimal (s .args .s)) + (length (markText (bytes "accept(") (orNone noLeaf (s .args .accept))) + length (markText (bytes "early(") (orNone noLeaf (s .args .early)))))
+size s = omega (arith, simp length-append at (ap length (parts (s .args .s) (s .args .accept) (s .args .early))))
 
 slice-aggregate-numbered : tie.Need-slice-aggregate-numbered
 slice-aggregate-numbered c = search needs
@@ -64,7 +64,7 @@ returns c =
     let opening = accept .before .before .before .before .before in
     let name = opening .before .before .before .before .before in
     let a = name .before .before .before .before .args in
-    wrote-as (sym (parts (a .s) (acceptIn (a .marks)) (earlyIn (a .marks))))
+    wrote-as (sym (parts (a .s) (a .accept) (a .early)))
     (wrote-then (name .numbered .ensures)
     (wrote-then (opening .text .ensures)
     (wrote-then (accept .mark .ensures)

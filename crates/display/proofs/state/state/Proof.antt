@@ -1,45 +1,43 @@
 -- The text's four parts in a row. Assumes nothing.
 use borrow.Author.Needs.{needs}
 use mathlib.Core.Path.{_≡_, sym, ap}
-use mathlib.Core.List.{List}
-use Prim.Native.Nat.{ℕ, _+_, _/_, _%_}
+use Prim.Native.Nat.{_+_}
 use native.Mathlib.Omega.{arith}
 use lib.ListN.{length, getD, length-append}
 use Rattle.graph_rules.specs.Graph.{State, stateOf, orNone, graphFrom}
-use Rattle.graph_rules.proofs.Taken.{taken-long, taken-few}
 use Rattle.display.specs.Text.{bytes, after}
 use Rattle.display.specs.Display.{firstLine, edgeLines, endLines, stateText}
 use Rattle.display.proofs.Runs.{wrote-then, wrote-as}
-use Rattle.display.proofs.Parts.{fourParts, state-parts}
+use Rattle.display.proofs.Parts.{four, state-parts}
 use Rattle.display.proofs.state.state.Statement.{statement}
 use Rattle.display.proofs.state.state.Tie as tie
-use Rattle.graph_rules.specs.Layout.{noState, noLeaf, acceptIn, earlyIn}
+use Rattle.graph_rules.specs.Layout.{noState, noLeaf}
 
-abbrev words : tie.Start → List ℕ
-words s = s .args .graph .now
+accept-requires : tie.Need-accept-requires
+accept-requires c κs = search needs
 
-abbrev st : tie.Start → State
-st s = stateOf (graphFrom (words s)) (s .args .s)
+early-requires : tie.Need-early-requires
+early-requires c κs = search needs
 
-word-requires : tie.Need-word-requires
-word-requires c κs = let s = c .before .before in omega (arith, taken-long (words s) (s .pre .0), taken-few (words s) (s .pre .0))
+target-requires : tie.Need-target-requires
+target-requires c κs = search needs
 
-word-requires-2 : tie.Need-word-requires-2
-word-requires-2 c κs = let s = c .before .before .before in omega (arith, taken-long (words s) (s .pre .0), taken-few (words s) (s .pre .0))
+-- where all three are read
+abbrev start : tie.After-target → tie.Start
+start c = c .before .before .before .before .before
 
--- where both words are read
-abbrev start : tie.After-word2 → tie.Start
-start c = c .before .before .before .before
+abbrev state : tie.After-target → State
+state c = stateOf (graphFrom (start c .args .graph .now)) (start c .args .s)
 
-parts : (c : tie.After-word2) → stateText (getD (words (start c)) 0 0) (start c .args .s) (st (start c))
-    ≡ fourParts (words (start c)) (start c .pre .0) (start c .args .s) (start c .pre .1 .0) (c .before .word .result) (c .word2 .result)
+parts : (c : tie.After-target) → stateText (getD (start c .args .graph .now) 0 0) (start c .args .s) (state c)
+    ≡ four (getD (start c .args .graph .now) 0 0) (start c .args .s) (state c) (orNone noLeaf (c .before .before .accept .result)) (orNone noLeaf (c .before .early .result)) (orNone noState (c .target .result))
 parts c =
     let s = start c in
-    state-parts (words s) (s .pre .0) (s .args .s) (s .pre .1 .0) (c .before .word .result) (c .word2 .result) (c .before .word .ensures .0) (c .word2 .ensures .0)
+    state-parts (s .args .graph .now) (s .pre .0) (s .args .s) (s .pre .1 .0) _ _ _ (c .before .before .accept .ensures .0) (c .before .early .ensures .0) (c .target .ensures)
 
-size : (c : tie.After-word2) → length (stateText (getD (words (start c)) 0 0) (start c .args .s) (st (start c)))
-    ≡ length (firstLine (start c .args .s) (orNone noLeaf (acceptIn (c .before .word .result))) (orNone noLeaf (earlyIn (c .before .word .result))))
-    + (length (after (bytes "\n") (edgeLines (getD (words (start c)) 0 0) (st (start c)))) + (length (after (bytes "\n") (endLines (orNone noState (c .word2 .result)))) + 4))
+size : (c : tie.After-target) → length (stateText (getD (start c .args .graph .now) 0 0) (start c .args .s) (state c))
+    ≡ length (firstLine (start c .args .s) (orNone noLeaf (c .before .before .accept .result)) (orNone noLeaf (c .before .early .result)))
+    + (length (after (bytes "\n") (edgeLines (getD (start c .args .graph .now) 0 0) (state c))) + (length (after (bytes "\n") (endLines (orNone noState (c .target .result)))) + 4))
 size c = simp length-append at (ap length (parts c))
 
 first-line-requires : tie.Need-first-line-requires
@@ -73,8 +71,9 @@ pub state-spec : {M : Type 1} → statement M
 state-spec =
     tie.close
     (tie.spec
-    word-requires
-    word-requires-2
+    accept-requires
+    early-requires
+    target-requires
     first-line-requires
     edge-lines-requires
     end-line-requires

@@ -17,7 +17,7 @@ use Rattle.graph.proofs.new.with_empty.Reads as with-empty-reads
 use Rattle.graph.proofs.new.with_states.Reads as with-states-reads
 use Rattle.graph.proofs.new.without_start.Reads as without-start-reads
 use Rattle.legal.proofs.check.Reads as check-reads
-use Rattle.legal.proofs.count_empty.Reads as count-empty-reads
+use Rattle.conflicts.proofs.count_empty.Reads as count-empty-reads
 use Rattle.words.proofs.graph.place.Reads as place-reads
 use Rattle.words.proofs.table.start.Reads as start-reads
 use Rattle.words.proofs.table.states.Reads as states-reads

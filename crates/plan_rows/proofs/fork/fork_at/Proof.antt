@@ -6,7 +6,7 @@ use Prim.Native.Nat.{ℕ, _-_, _≤_, _<_}
 use native.Mathlib.Omega.{arith}
 use lib.ListN.{getD}
 use Rattle.graph_rules.specs.Graph.{stateOf, graphFrom}
-use Rattle.graph_rules.proofs.Taken.{taken-long, taken-few}
+use Rattle.graph_rules.proofs.Taken.{taken-few}
 use Rattle.edges.specs.Edges.{leadsTo}
 use Rattle.edges.proofs.ByTarget.{target-flag}
 use Rattle.plan_rows.proofs.Forks.{Forking, forking-none, forking-first, forking-second, forking-later, forking-not, forked}
@@ -25,8 +25,8 @@ start l = l .before .before .before .before
 targets-requires : tie.Need-targets-requires Inv-loop μ-loop
 targets-requires c κs = c .before .pre
 
-word-requires : tie.Need-word-requires Inv-loop μ-loop
-word-requires c κs = let s = c .before .before in omega (arith, taken-long (s .args .graph .now) (s .pre .0))
+states-requires : tie.Need-states-requires Inv-loop μ-loop
+states-requires c κs = c .before .before .pre .0
 
 loop-holds : tie.Need-loop-holds Inv-loop μ-loop
 loop-holds c = (omega arith, forking-none _)
@@ -35,8 +35,8 @@ add-u : tie.Need-add-u Inv-loop μ-loop
 add-u c = omega arith
 
 -- u is the number of a state
-is-state : (l : tie.At-loop Inv-loop μ-loop) → l .loop .u < l .before .word .result → l .loop .u < getD (start l .args .graph .now) 0 0
-is-state l h = omega (arith, l .before .word .ensures .0)
+is-state : (l : tie.At-loop Inv-loop μ-loop) → l .loop .u < l .before .states .result → l .loop .u < getD (start l .args .graph .now) 0 0
+is-state l h = omega (arith, l .before .states .ensures .0)
 
 array-read-if1 : tie.Need-array-read-if1 Inv-loop μ-loop
 array-read-if1 c = let s = start (c .before) in omega (arith, is-state (c .before) (omega arith), taken-few (s .args .graph .now) (s .pre .0))
@@ -85,14 +85,14 @@ loop-again-4 c =
     let not-led = sym (flag l (l .loop .u) (is-state l (omega arith))) ∙ c .if1 .left in
     (omega arith, forking-not (l .loop .inv .1) not-led)
 
-array-read-own : tie.Need-array-read-own Inv-loop μ-loop
-array-read-own c = let s = start (c .before) in omega (arith, s .pre .1, taken-few (s .args .graph .now) (s .pre .0))
+array-read-t20 : tie.Need-array-read-t20 Inv-loop μ-loop
+array-read-t20 c = let s = start (c .before) in omega (arith, s .pre .1, taken-few (s .args .graph .now) (s .pre .0))
 
 returns : tie.Need-returns Inv-loop μ-loop
 returns c =
     let l = c .before in
     let s = start l in
-    forked (s .args .graph .now) (s .args .s) (l .loop .u) (l .loop .inv .1) (omega (arith, l .before .word .ensures .0)) (s .pre .1) (flag l (s .args .s) (s .pre .1))
+    forked (s .args .graph .now) (s .args .s) (l .loop .u) (l .loop .inv .1) (omega (arith, l .before .states .ensures .0)) (s .pre .1) (flag l (s .args .s) (s .pre .1))
 
 pub fork-at-spec : {M : Type 1} → statement M
 fork-at-spec =
@@ -101,7 +101,7 @@ fork-at-spec =
     Inv-loop
     μ-loop
     targets-requires
-    word-requires
+    states-requires
     loop-holds
     add-u
     array-read-if1
@@ -114,5 +114,5 @@ fork-at-spec =
     loop-again-3
     loop-less-4
     loop-again-4
-    array-read-own
+    array-read-t20
     returns)

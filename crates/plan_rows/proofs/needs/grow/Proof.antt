@@ -5,8 +5,6 @@ use mathlib.Core.Path.{_≡_, sym, _∙_}
 use Prim.Native.Nat.{_-_, _≤_, _<_}
 use native.Mathlib.Omega.{arith}
 use lib.ListN.{length, getD}
-use Rattle.graph_rules.proofs.Taken.{taken-long}
-use Rattle.plan_rules.specs.Plan.{base}
 use Rattle.plan_rows.proofs.Growing.{by-not}
 use Rattle.plan_rows.proofs.StateNeeds.{Going, going-none, going-allows, going-more, going-refused, going-done}
 use Rattle.plan_rows.proofs.needs.grow.Statement.{statement}
@@ -25,8 +23,8 @@ size : (s : tie.Start Inv-loop μ-loop) → length (s .args .store .tables) ≡ 
 size s = search needs
 
 -- s is the number of a state
-is-state : (l : tie.At-loop Inv-loop μ-loop) → l .loop .s < l .before .word .result → l .loop .s < getD (start l .args .graph .now) 0 0
-is-state l h = omega (arith, l .before .word .ensures .0)
+is-state : (l : tie.At-loop Inv-loop μ-loop) → l .loop .s < l .before .states .result → l .loop .s < getD (start l .args .graph .now) 0 0
+is-state l h = omega (arith, l .before .states .ensures .0)
 
 allowed-requires : tie.Need-allowed-requires Inv-loop μ-loop
 allowed-requires c κs = search needs
@@ -36,8 +34,8 @@ returns c =
     let s = c .before .before .before .before .before .args in
     by-not (s .store) _ (sym (c .before .allowed .ensures) ∙ not-true _ (c .if1 .taken))
 
-word-requires : tie.Need-word-requires Inv-loop μ-loop
-word-requires c κs = let s = c .before .before .before .before .before in omega (arith, taken-long (s .args .graph .now) (s .pre))
+states-requires : tie.Need-states-requires Inv-loop μ-loop
+states-requires c κs = c .before .before .before .before .before .pre
 
 loop-holds : tie.Need-loop-holds Inv-loop μ-loop
 loop-holds c =
@@ -76,7 +74,7 @@ returns-3 : tie.Need-returns-3 Inv-loop μ-loop
 returns-3 c =
     let l = c .before in
     let s = start l .args in
-    going-done (s .graph .now) (s .store) (l .loop .inv .1) (omega (arith, l .before .word .ensures .0))
+    going-done (s .graph .now) (s .store) (l .loop .inv .1) (omega (arith, l .before .states .ensures .0))
 
 pub grow-spec : {M : Type 1} → statement M
 grow-spec =
@@ -86,7 +84,7 @@ grow-spec =
     μ-loop
     allowed-requires
     returns
-    word-requires
+    states-requires
     loop-holds
     with-state-requires
     returns-2

@@ -4,23 +4,26 @@ use borrow.Author.Tests.{not-true, not-false}
 use mathlib.Core.Path.{_≡_, ap, _∙_}
 use mathlib.Core.Bool.{true}
 use mathlib.Core.List.{List, [], _++_, append-nil}
-use Prim.Native.Nat.{_≤_}
+use Prim.Native.Nat.{_≤_, _<_}
 use native.Mathlib.Omega.{arith}
 use lib.ListN.{length}
 use Rattle.lists.specs.Lists.{allL}
 use Rattle.classes.specs.Classes.{Class}
 use Rattle.graph_rules.specs.Graph.{Graph, graphFrom, stateOf}
-use Rattle.graph_rules.proofs.Flat.{from-length}
+use Rattle.graph_rules.proofs.Flat.{from-length, from-width}
 use Rattle.edges.specs.Edges.{targets}
 use Rattle.mask_store.specs.declared.MaskStore.{MaskStore}
 use Rattle.mask_store.specs.Masks.{takes, grown}
 use Rattle.mask_store.proofs.Growth.{whole}
+use Rattle.graph_rules.specs.Layout.{stepCount}
+use Rattle.graph_rules.proofs.Taken.{taken-long}
 use Rattle.plan_rules.specs.Plan.{base, wayTo, edgeNeeds}
-use Rattle.plan_rules.proofs.Lists.{append-all}
+use Rattle.plan_rules.proofs.OwnStore.{own-whole, masked-whole}
+use Rattle.lists.proofs.Flattened.{append-all}
 use Rattle.plan_rows.specs.Needs.{grownBy}
-use Rattle.plan_rows.proofs.Forks.{low-below, high-below}
+use Rattle.plan_rows.proofs.Forks.{few-edges, low-below, high-below}
 use Rattle.plan_rows.proofs.Growing.{was-taken, store-grown, front-refused, grown-allows, then-taken, then-refused}
-use Rattle.plan_rows.proofs.StateNeeds.{own-whole, way-whole, own, low, high, state-own, state-table, state-none, state-one, state-two, state-low}
+use Rattle.plan_rows.proofs.StateNeeds.{own, low, high, state-own, state-table, state-none, state-one, state-two, state-low}
 use Rattle.plan_rows.proofs.needs.with_state.Statement.{statement}
 use Rattle.plan_rows.proofs.needs.with_state.Tie as tie
 
@@ -52,26 +55,33 @@ low-of o = low (g o) (start o .args .s) (o .before .fork-at .ensures)
 abbrev high-of : tie.After-with-own → List Class
 high-of o = high (g o) (start o .args .s) (o .before .fork-at .ensures)
 
+some-state : (o : tie.After-with-own) → 0 < length (g o .states)
+some-state o = let s = start o in omega (arith, from-length (s .args .graph .now), s .pre .1 .0)
+
+-- a state has all its steps
+width : (o : tie.After-with-own) → length (stateOf (g o) (start o .args .s) .steps) ≡ stepCount
+width o = let s = start o in from-width (s .args .graph .now) (taken-long (s .args .graph .now) (s .pre .0)) (s .args .s) (s .pre .1 .0)
+
 own-wide : (o : tie.After-with-own) → allL whole (own-of o) ≡ true
-own-wide o = own-whole (start o .args .graph .now) (start o .pre .0) (start o .args .s) (start o .pre .1 .0) (o .before .fork-at .result .own)
+own-wide o = own-whole base (stateOf (g o) (start o .args .s)) (width o) (start o .args .s) (o .before .fork-at .result .own)
 
 both-wide : (o : tie.After-with-own) → allL whole (own-of o ++ low-of o) ≡ true
 both-wide o =
     let s = start o in
     let u = o .before .fork-at .result .low in
     append-all whole (own-of o) (low-of o) (own-wide o)
-    (way-whole (s .args .graph .now) (s .pre .0) (s .args .s) (s .pre .1 .0) (wayTo base (stateOf (g o) (s .args .s)) (s .args .s) u) u)
+    (masked-whole base (stateOf (g o) (s .args .s)) (width o) (wayTo base (stateOf (g o) (s .args .s)) (s .args .s) u) u)
 
 -- ---- the self edge's class is taken, and there are one or two edges
 
 abbrev first : tie.After-by-own → tie.After-with-own
-first b = b .before .before .before .before .before .before .before
+first b = b .before .before .before .before .before .before
 
 some-edge : (b : tie.After-by-own) → first b .before .fork-at .result .count ≡ 0 → ⊥
 some-edge b = b .before .before .before .if2 .left
 
 no-table : (b : tie.After-by-own) → first b .before .fork-at .result .count ≤ 2
-no-table b = b .before .before .before .before .before .if1 .left
+no-table b = let o = first b in few-edges (g o) (start o .args .s) (o .before .fork-at .ensures) (b .before .before .before .before .before .if1 .left)
 
 own-taken : (b : tie.After-by-own) → first b .with-own .result .taken ≡ true
 own-taken b = not-false _ (b .before .if3 .left)
@@ -97,14 +107,14 @@ two-edges : (h : tie.Else5) → first (h .before .before .before .before .before
 two-edges h = let b = h .before .before .before .before .before in omega (arith, h .if5 .left, some-edge b, no-table b)
 
 returns : tie.Need-returns
-returns c = let o = c .before .before in o .with-own .ensures ∙ ap (grownBy (store o)) (state-table (g o) (start o .args .s) (o .before .fork-at .ensures) (c .if1 .taken))
+returns c = let o = c .before in o .with-own .ensures ∙ ap (grownBy (store o)) (state-table (g o) (start o .args .s) (o .before .fork-at .ensures) (c .if1 .taken))
 
 returns-2 : tie.Need-returns-2
-returns-2 c = let o = c .before .before .before .before in o .with-own .ensures ∙ ap (grownBy (store o)) (state-none (g o) (start o .args .s) (o .before .fork-at .ensures) (c .if2 .taken))
+returns-2 c = let o = c .before .before .before in o .with-own .ensures ∙ ap (grownBy (store o)) (state-none (g o) (start o .args .s) (o .before .fork-at .ensures) (c .if2 .taken))
 
 returns-3 : tie.Need-returns-3
 returns-3 c =
-    let o = c .before .before .before .before .before .before in
+    let o = c .before .before .before .before .before in
     let st = stateOf (g o) (start o .args .s) in
     front-refused (store o) (own-of o) (edgeNeeds base st (start o .args .s) (targets (length (g o .states)) st)) (o .with-own .ensures) (not-true _ (c .if3 .taken))
     ∙ ap (grownBy (store o)) (state-own (g o) (start o .args .s) (o .before .fork-at .ensures))
@@ -113,7 +123,7 @@ with-edge-requires : tie.Need-with-edge-requires
 with-edge-requires c κs =
     let o = first c in
     let s = start o in
-    let below = low-below (g o) (s .args .s) (o .before .fork-at .ensures) (some-edge c) in
+    let below = low-below (g o) (s .args .s) (o .before .fork-at .ensures) (some-state o) in
     (s .pre .0, (s .pre .1 .0, (omega (arith, below, from-length (s .args .graph .now)), grown-allows (store o) (own-of o) (size o) (own-wide o) (o .with-own .ensures) (own-taken c))))
 
 returns-4 : tie.Need-returns-4
@@ -136,7 +146,7 @@ with-edge-requires-2 c κs =
     let f = c .before .before .before in
     let o = first (f .before .before .before) in
     let s = start o in
-    let below = high-below (g o) (s .args .s) (o .before .fork-at .ensures) (omega (arith, c .before .if5 .left, some-edge (f .before .before .before))) in
+    let below = high-below (g o) (s .args .s) (o .before .fork-at .ensures) (some-state o) in
     (s .pre .0, (s .pre .1 .0, (omega (arith, below, from-length (s .args .graph .now)), grown-allows (store o) (own-of o ++ low-of o) (size o) (both-wide o) (both-grown f) (low-taken f))))
 
 returns-6 : tie.Need-returns-6

@@ -2,23 +2,22 @@
 use borrow.Author.Tests.{not-true, not-false}
 use mathlib.Core.Path.{_≡_, refl, sym, ap, _∙_}
 use mathlib.Core.List.{List, flatMap}
-use Prim.Native.Nat.{ℕ, _+_, _*_, _-_, _≤_, _<_}
+use Prim.Native.Nat.{ℕ, _+_, _-_, _≤_, _<_}
 use native.Mathlib.Omega.{arith}
 use lib.Dec.{eqb}
 use lib.ListN.{length, getD, take, drop}
 use Rattle.lists.specs.Lists.{eqList}
 use Rattle.graph_rules.specs.Graph.{graphFrom}
 use Rattle.graph_rules.proofs.Flat.{from-length}
-use Rattle.graph_rules.proofs.Taken.{taken-long}
 use Rattle.mask_store.specs.Masks.{storeOf, held}
-use Rattle.plan_rules.specs.Plan.{base, planRow, planWords}
-use Rattle.plan_rows.proofs.PlanRows.{row-length}
+use Rattle.plan_rules.specs.Plan.{base, rowSize, ownPlace, planRow, planWords}
+use Rattle.plan_rules.proofs.RunIsWalk.{base-sane, row-length}
 use Rattle.plan_rows.proofs.Rowwise.{Agrees, agrees-more, agrees-all, agrees-not}
 use Rattle.plan_rows.proofs.rows.agrees.Statement.{statement}
 use Rattle.plan_rows.proofs.rows.agrees.Tie as tie
 
 abbrev Inv-loop : tie.InvT-loop
-Inv-loop graph plan tables count n s₀ s = (s ≤ n) × Agrees (planRow base (held (storeOf tables count)) (graphFrom graph)) (row-length (held (storeOf tables count)) (graphFrom graph)) plan s
+Inv-loop graph plan tables count n s₀ s = (s ≤ n) × Agrees (planRow base (held (storeOf tables count)) (graphFrom graph)) (row-length base base-sane (held (storeOf tables count)) (graphFrom graph)) plan s
 
 abbrev μ-loop : tie.MeasureT-loop
 μ-loop graph plan tables count n s₀ s = n - s
@@ -30,23 +29,23 @@ start l = l .before .before .before .before
 abbrev row : (l : tie.At-loop Inv-loop μ-loop) → ℕ → List ℕ
 row l = let s = start l .args in planRow base (held (storeOf (s .tables .now) (s .count))) (graphFrom (s .graph .now))
 
-wide : (l : tie.At-loop Inv-loop μ-loop) (s : ℕ) → length (row l s) ≡ 3
-wide l = let s = start l .args in row-length (held (storeOf (s .tables .now) (s .count))) (graphFrom (s .graph .now))
+wide : (l : tie.At-loop Inv-loop μ-loop) (s : ℕ) → length (row l s) ≡ rowSize base
+wide l = let s = start l .args in row-length base base-sane (held (storeOf (s .tables .now) (s .count))) (graphFrom (s .graph .now))
 
 -- s is the number of a state
-is-state : (l : tie.At-loop Inv-loop μ-loop) → l .loop .s < l .before .word .result → l .loop .s < getD (start l .args .graph .now) 0 0
-is-state l h = omega (arith, l .before .word .ensures .0)
+is-state : (l : tie.At-loop Inv-loop μ-loop) → l .loop .s < l .before .states .result → l .loop .s < getD (start l .args .graph .now) 0 0
+is-state l h = omega (arith, l .before .states .ensures .0)
 
 -- what the call said of its row
-told : (c : tie.After-row-agrees Inv-loop μ-loop) →
+told : (c : tie.After-has-row Inv-loop μ-loop) →
     let l = c .before .before .before in
-    c .row-agrees .result ≡ eqList eqb (take 3 (drop (3 * l .loop .s) (start l .args .plan .now))) (row l (l .loop .s))
+    c .has-row .result ≡ eqList eqb (take (rowSize base) (drop (ownPlace base (l .loop .s)) (start l .args .plan .now))) (row l (l .loop .s))
 told c =
     let l = c .before .before .before in
-    c .row-agrees .ensures ∙ ap (eqList eqb (take 3 (drop (3 * l .loop .s) (start l .args .plan .now)))) (c .before .row-at .ensures)
+    c .has-row .ensures ∙ ap (eqList eqb (take (rowSize base) (drop (ownPlace base (l .loop .s)) (start l .args .plan .now)))) (c .before .row-at .ensures)
 
-word-requires : tie.Need-word-requires Inv-loop μ-loop
-word-requires c κs = let s = c .before .before in omega (arith, taken-long (s .args .graph .now) (s .pre .0))
+states-requires : tie.Need-states-requires Inv-loop μ-loop
+states-requires c κs = c .before .before .pre .0
 
 loop-holds : tie.Need-loop-holds Inv-loop μ-loop
 unfolding flatMap
@@ -55,11 +54,11 @@ loop-holds c = (omega arith, refl)
 row-at-requires : tie.Need-row-at-requires Inv-loop μ-loop
 row-at-requires c κs = let s = start (c .before) in (s .pre .0, (is-state (c .before) (omega arith), s .pre .1 .1))
 
-row-agrees-requires : tie.Need-row-agrees-requires Inv-loop μ-loop
-row-agrees-requires c κs =
+has-row-requires : tie.Need-has-row-requires Inv-loop μ-loop
+has-row-requires c κs =
     let l = c .before .before in
     let s = start l in
-    let room : 3 * l .loop .s + 3 ≤ length (s .args .plan .now) = omega (arith, is-state l (omega arith), from-length (s .args .graph .now), s .pre .1 .0) in
+    let room : ownPlace base (l .loop .s) + rowSize base ≤ length (s .args .plan .now) = omega (arith, is-state l (omega arith), from-length (s .args .graph .now), s .pre .1 .0) in
     room
 
 returns : tie.Need-returns Inv-loop μ-loop
@@ -89,7 +88,7 @@ returns-2 c =
     let s = start l .args in
     sym
     (agrees-all (row l) (wide l) (s .plan .now) (l .loop .s) (length (graphFrom (s .graph .now) .states)) (l .loop .inv .1)
-    (omega (arith, l .before .word .ensures .0, from-length (s .graph .now))))
+    (omega (arith, l .before .states .ensures .0, from-length (s .graph .now))))
 
 pub agrees-spec : {M : Type 1} → statement M
 agrees-spec =
@@ -97,10 +96,10 @@ agrees-spec =
     (tie.spec
     Inv-loop
     μ-loop
-    word-requires
+    states-requires
     loop-holds
     row-at-requires
-    row-agrees-requires
+    has-row-requires
     returns
     add-s
     loop-less

@@ -6,7 +6,7 @@ use Rattle.classes.specs.Classes.{Class}
 use Rattle.graph_rules.specs.Graph.{Graph, graphFrom}
 use Rattle.graph_rules.proofs.Flat.{from-length}
 use Rattle.mask_store.specs.Masks.{storeOf, held}
-use Rattle.plan_rows.proofs.Forks.{low-below, high-below}
+use Rattle.plan_rows.proofs.Forks.{few-edges, low-below, high-below}
 use Rattle.plan_rows.proofs.PlanRows.{row-table, row-none, row-one, row-two}
 use Rattle.plan_rows.proofs.rows.row_at.Statement.{statement}
 use Rattle.plan_rows.proofs.rows.row_at.Tie as tie
@@ -30,33 +30,36 @@ returns : tie.Need-returns
 returns c = let o = c .before in row-table (all o) (g o) (start o .args .s) (o .before .fork-at .ensures) (o .own-word .ensures) (c .if1 .taken)
 
 returns-2 : tie.Need-returns-2
-returns-2 c = let o = c .before .before in row-none (all o) (g o) (start o .args .s) (o .before .fork-at .ensures) (o .own-word .ensures) (c .if2 .taken)
+returns-2 c = let o = c .before .before .before in row-none (all o) (g o) (start o .args .s) (o .before .fork-at .ensures) (o .own-word .ensures) (c .if2 .taken)
 
 edge-word-requires : tie.Need-edge-word-requires
 edge-word-requires c κs =
-    let o = c .before .before in
+    let o = c .before .before .before in
     let s = start o in
-    let below = low-below (g o) (s .args .s) (o .before .fork-at .ensures) (c .if2 .left) in
+    let below = low-below (g o) (s .args .s) (o .before .fork-at .ensures) (omega (arith, from-length (s .args .graph .now), s .pre .1 .0)) in
     (s .pre .0, (s .pre .1 .0, (omega (arith, below, from-length (s .args .graph .now)), s .pre .1 .1)))
 
 returns-3 : tie.Need-returns-3
 returns-3 c =
-    let o = c .before .before .before .before in
-    row-one (all o) (g o) (start o .args .s) (o .before .fork-at .ensures) (o .own-word .ensures) (c .before .edge-word .ensures) (c .if3 .taken)
+    let e = c .before .before in
+    let o = e .before .before .before .before in
+    row-one (all o) (g o) (start o .args .s) (o .before .fork-at .ensures) (o .own-word .ensures) (e .edge-word .ensures) (c .if3 .taken)
 
 edge-word-requires-2 : tie.Need-edge-word-requires-2
 edge-word-requires-2 c κs =
-    let o = c .before .before .before .before in
+    let e = c .before .before in
+    let o = e .before .before .before .before in
     let s = start o in
-    let below = high-below (g o) (s .args .s) (o .before .fork-at .ensures) (omega (arith, c .if3 .left, c .before .before .if2 .left)) in
+    let below = high-below (g o) (s .args .s) (o .before .fork-at .ensures) (omega (arith, from-length (s .args .graph .now), s .pre .1 .0)) in
     (s .pre .0, (s .pre .1 .0, (omega (arith, below, from-length (s .args .graph .now)), s .pre .1 .1)))
 
 returns-4 : tie.Need-returns-4
 returns-4 c =
-    let e = c .before in
+    let e = c .before .before .before in
     let o = e .before .before .before .before in
-    row-two (all o) (g o) (start o .args .s) (o .before .fork-at .ensures) (o .own-word .ensures) (e .before .edge-word .ensures) (c .edge-word2 .ensures)
-    (omega (arith, e .if3 .left, e .before .before .if2 .left, e .before .before .before .if1 .left))
+    let few = few-edges (g o) (start o .args .s) (o .before .fork-at .ensures) (e .before .before .before .if1 .left) in
+    row-two (all o) (g o) (start o .args .s) (o .before .fork-at .ensures) (o .own-word .ensures) (e .edge-word .ensures) (c .edge-word2 .ensures)
+    (omega (arith, c .before .if3 .left, e .before .if2 .left))
 
 pub row-at-spec : {M : Type 1} → statement M
 row-at-spec =

@@ -42,14 +42,14 @@ use denote.Triple.Table.{entered, cited}
 use denote.Triple.Walked.{says, Stays, stay-dropped, gave-slice, walkOf, goes-dropped, goes-gave-slice, Walks, ends-at, walked, walk-meets}
 use denote.Exit.{yes}
 use Rattle.mask_store.specs.declared.MaskStore.{MaskStore}
-use Rattle.mask_store.proofs.Values.{stored}
+use Rattle.mask_store.proofs.Values.{stored, lies-in, lies-out}
 use Rattle.mask_store.proofs.MaskStore as T
 use Rattle.mask_store.proofs.MaskStore.Laws as T′
 use Rattle.plan_rules.specs.Plan.{base as document}
 use Rattle.planning.specs.declared.plan.PlanAnswer.{PlanAnswer}
 use Rattle.planning.specs.declared.plan.Planning.{Planning}
 use Rattle.planning.specs.Plan.{planCall}
-use Rattle.planning.proofs.PlanValues.{sliced, given, planning-is, slices, lies-in, lies-out}
+use Rattle.planning.proofs.PlanValues.{sliced, given, planning-is, slices}
 use Rattle.planning.proofs.plan.PlanAnswer as N
 use Rattle.planning.proofs.plan.PlanAnswer.Laws as N′
 use Rattle.planning.proofs.plan.Planning as G

@@ -5,16 +5,16 @@ use Prim.Native.Nat.{_≤_, _<_}
 use native.Mathlib.Omega.{arith}
 use borrow.Author.Tests.{not-true, not-false}
 use lib.ListN.{length}
-use Rattle.graph_rules.proofs.Taken.{taken-long}
 use Rattle.graph_rules.specs.Graph.{graphFrom, graphFits}
 use Rattle.mask_store.specs.Masks.{grown, takes}
 use Rattle.plan_rules.specs.Plan.{base, needs as needed, planSize}
-use Rattle.planning.proofs.Planning.{size-is, grow-taken, grow-store, plan-unfit, plan-short, plan-full, after-more, after-fits, plan-made, outcome}
+use Rattle.plan_rows.proofs.Growing.{was-taken, was-refused, store-grown}
+use Rattle.planning.proofs.Planning.{size-is, plan-unfit, plan-short, plan-full, after-more, after-fits, plan-made, outcome}
 use borrow.Author.Needs.{needs}
 use Rattle.planning.proofs.plan.plan_by_value.Statement.{statement}
 use Rattle.planning.proofs.plan.plan_by_value.Tie as tie
 
--- 12 takes the graph
+-- the graph words are well-formed
 fitting : (c : tie.Else1) → graphFits (c .before .before .before .before .args .graph .now) ≡ true
 fitting c = sym (c .before .fits2 .ensures) ∙ not-false _ (c .if1 .left)
 
@@ -22,19 +22,19 @@ fitting c = sym (c .before .fits2 .ensures) ∙ not-false _ (c .if1 .left)
 roomy : (c : tie.Else2) → let a = c .before .before .before .before .before .before .args in planSize base (graphFrom (a .graph .now)) ≤ length (a .out .now)
 roomy c =
     let a = c .before .before .before .before .before .before .args in
-    omega (arith, size-is (a .graph .now) _ (c .before .word .ensures .0))
+    omega (arith, size-is (a .graph .now) _ (c .before .states .ensures .0))
 
 -- and 15 takes the store, which has grown
 took : (c : tie.Else3) → let a = c .before .before .before .before .before .before .before .before .before .args in takes (a .store) (needed base (graphFrom (a .graph .now))) ≡ true
 took c =
     let at = c .before .before in
-    grow-taken (at .before .before .before .before .before .before .before .args .store) _ (at .grow .result) (at .grow .ensures) _ (not-false _ (c .if3 .left))
+    was-taken (at .before .before .before .before .before .before .before .args .store) _ (at .grow .ensures) (not-false _ (c .if3 .left))
 
 stored : (c : tie.Else3) → let a = c .before .before .before .before .before .before .before .before .before .args in
     c .before .before .grow .result .store ≡ grown (a .store) (needed base (graphFrom (a .graph .now)))
 stored c =
     let at = c .before .before in
-    grow-store (at .before .before .before .before .before .before .before .args .store) _ (at .grow .result) (at .grow .ensures) (not-false _ (c .if3 .left))
+    store-grown (at .before .before .before .before .before .before .before .args .store) _ (at .grow .ensures) (not-false _ (c .if3 .left))
 
 sized : (c : tie.Else3) → length (c .before .before .before .before .before .before .before .before .before .args .store .tables) ≡ 2048
 sized c = search needs
@@ -52,9 +52,8 @@ returns c =
     let e = outcome (plan-unfit (a .graph .now) (a .out .now) (a .store) (sym (at .fits2 .ensures) ∙ not-true _ (c .before .if1 .taken))) in
     (c .refused .ensures ∙ e .0, e .1)
 
-word-requires : tie.Need-word-requires
-word-requires c κs =
-    let l = taken-long _ (fitting c) in omega arith
+states-requires : tie.Need-states-requires
+states-requires c κs = fitting c
 
 mul-if2 : tie.Need-mul-if2
 mul-if2 c = search needs
@@ -66,7 +65,7 @@ returns-2 : tie.Need-returns-2
 returns-2 c =
     let at = c .before .before in
     let a = at .before .before .before .before .before .args in
-    let short : length (a .out .now) < planSize base (graphFrom (a .graph .now)) = omega (arith, size-is (a .graph .now) _ (at .word .ensures .0)) in
+    let short : length (a .out .now) < planSize base (graphFrom (a .graph .now)) = omega (arith, size-is (a .graph .now) _ (at .states .ensures .0)) in
     let e = outcome (plan-short (a .graph .now) (a .out .now) (a .store) (fitting (at .before)) short) in
     (c .refused2 .ensures ∙ e .0, e .1)
 
@@ -80,7 +79,7 @@ returns-3 : tie.Need-returns-3
 returns-3 c =
     let at = c .before .before .before in
     let a = at .before .before .before .before .before .before .before .args in
-    let t = grow-taken (a .store) _ (at .grow .result) (at .grow .ensures) _ (not-true _ (c .before .if3 .taken)) in
+    let t = was-refused (a .store) _ (at .grow .ensures) (not-true _ (c .before .if3 .taken)) in
     let e = outcome (plan-full (a .graph .now) (a .out .now) (a .store) (fitting (at .before .before .before)) (roomy (at .before)) t) in
     (c .refused3 .ensures ∙ e .0, e .1)
 
@@ -115,7 +114,7 @@ plan-by-value-spec =
     fits-requires
     refused-requires
     returns
-    word-requires
+    states-requires
     mul-if2
     refused-requires-2
     returns-2

@@ -6,7 +6,7 @@ use native.Mathlib.Omega.{arith}
 use borrow.Author.Needs.{needs}
 use lib.ListN.{length}
 use Rattle.graph_rules.specs.Graph.{graphFrom}
-use Rattle.scans.specs.List.{listFrom}
+use Rattle.scans.specs.List.{entrySize, listFrom}
 use Rattle.scans.proofs.Filling.{Filling, filling-none, filling-more, left-full, left-ends, done-listed, done-buffer}
 use Rattle.plans.proofs.planned.fill.Statement.{statement}
 use Rattle.plans.proofs.planned.fill.Tie as tie
@@ -69,7 +69,7 @@ loop-again c =
     inside (omega arith) e (read .planned-entry .ensures)
     in (
       put .put-entry .kept .0 ∙ l .inv .0,
-      subst (λ (x : List ℕ). Filling (graphFrom (st .args .graph .now)) (st .args .text .now) (st .args .from) (length (st .args .out .now) / 3) (st .args .out .now) x (l .n + 1) (e .end)) (sym (put .put-entry .ensures)) more,
+      subst (λ (x : List ℕ). Filling (graphFrom (st .args .graph .now)) (st .args .text .now) (st .args .from) (length (st .args .out .now) / entrySize) (st .args .out .now) x (l .n + 1) (e .end)) (sym (put .put-entry .ensures)) more,
     )
 
 same-length-2 : tie.Need-same-length-2 Inv-loop μ-loop

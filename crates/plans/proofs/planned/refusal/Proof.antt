@@ -8,7 +8,7 @@ use borrow.Author.Needs.{needs}
 use Rattle.plans.proofs.planned.refusal.Statement.{statement}
 use Rattle.plans.proofs.planned.refusal.Tie as tie
 
--- 12 takes the graph
+-- the graph words are well-formed
 fitting : (c : tie.Else1) → graphFits (c .before .before .before .before .before .args .graph .now) ≡ true
 fitting c = sym (c .before .fits2 .ensures) ∙ not-false _ (c .if1 .left)
 

@@ -1,4 +1,4 @@
--- A refusal with everything as found; or the graph is prepared once, and the entries from the scan's offset on are read by the plan. Assumes nothing.
+-- A refusal with everything unchanged; or the graph is prepared once, and the entries from the scan's offset on are read by the plan. Assumes nothing.
 use mathlib.Core.Path.{_≡_, sym, _∙_}
 use Prim.Native.Nat.{ℕ}
 use borrow.Author.Needs.{needs}

@@ -5,11 +5,11 @@ use Prim.Native.Nat.{_≤_}
 use native.Mathlib.Omega.{arith}
 use borrow.Author.Tests.{not-true, not-false}
 use lib.ListN.{length}
-use Rattle.graph_rules.proofs.Taken.{taken-long}
 use Rattle.graph_rules.specs.Graph.{graphFrom}
 use Rattle.mask_store.specs.Masks.{grown, takes}
 use Rattle.plan_rules.specs.Plan.{base, needs as needed, planSize}
-use Rattle.planning.proofs.Planning.{size-is, grow-taken, grow-store}
+use Rattle.plan_rows.proofs.Growing.{was-taken, was-refused, store-grown}
+use Rattle.planning.proofs.Planning.{size-is}
 use Rattle.plans.proofs.Running.{count-few, plan-short, plan-full, plan-lacks, plan-differs, plan-taken}
 use borrow.Author.Needs.{needs}
 use Rattle.plans.proofs.run.refusal.Statement.{statement}
@@ -17,23 +17,22 @@ use Rattle.plans.proofs.run.refusal.Tie as tie
 
 -- the plan's words are there
 long : (c : tie.Else1) → let a = c .before .before .before .before .args in planSize base (graphFrom (a .graph .now)) ≤ length (a .plan .now)
-long c = omega (arith, size-is (c .before .before .before .before .args .graph .now) _ (c .before .word .ensures .0))
+long c = omega (arith, size-is (c .before .before .before .before .args .graph .now) _ (c .before .states .ensures .0))
 
 -- and 15 takes the store, which has grown
 took : (c : tie.Else2) → let a = c .before .before .before .before .before .before .before .args in takes (a .store) (needed base (graphFrom (a .graph .now))) ≡ true
 took c =
     let at = c .before .before in
-    grow-taken (at .before .before .before .before .before .args .store) _ (at .grow .result) (at .grow .ensures) _ (not-false _ (c .if2 .left))
+    was-taken (at .before .before .before .before .before .args .store) _ (at .grow .ensures) (not-false _ (c .if2 .left))
 
 stored : (c : tie.Else2) → let a = c .before .before .before .before .before .before .before .args in
     c .before .before .grow .result .store ≡ grown (a .store) (needed base (graphFrom (a .graph .now)))
 stored c =
     let at = c .before .before in
-    grow-store (at .before .before .before .before .before .args .store) _ (at .grow .result) (at .grow .ensures) (not-false _ (c .if2 .left))
+    store-grown (at .before .before .before .before .before .args .store) _ (at .grow .ensures) (not-false _ (c .if2 .left))
 
-word-requires : tie.Need-word-requires
-word-requires c κs =
-    let l = taken-long _ (c .before .before .pre) in omega arith
+states-requires : tie.Need-states-requires
+states-requires c κs = c .before .before .pre
 
 mul-if1 : tie.Need-mul-if1
 mul-if1 c = search needs
@@ -41,7 +40,7 @@ mul-if1 c = search needs
 returns : tie.Need-returns
 returns c =
     let a = c .before .before .before .before .args in
-    sym (plan-short (graphFrom (a .graph .now)) (a .plan .now) (a .store) (omega (arith, size-is (a .graph .now) _ (c .before .word .ensures .0))))
+    sym (plan-short (graphFrom (a .graph .now)) (a .plan .now) (a .store) (omega (arith, size-is (a .graph .now) _ (c .before .states .ensures .0))))
 
 grow-requires : tie.Need-grow-requires
 grow-requires c κs = search needs
@@ -50,7 +49,7 @@ returns-2 : tie.Need-returns-2
 returns-2 c =
     let at = c .before .before in
     let a = at .before .before .before .before .before .args in
-    sym (plan-full (graphFrom (a .graph .now)) (a .plan .now) (a .store) (long (at .before)) (grow-taken (a .store) _ (at .grow .result) (at .grow .ensures) _ (not-true _ (c .if2 .taken))))
+    sym (plan-full (graphFrom (a .graph .now)) (a .plan .now) (a .store) (long (at .before)) (was-refused (a .store) _ (at .grow .ensures) (not-true _ (c .if2 .taken))))
 
 returns-3 : tie.Need-returns-3
 returns-3 c =
@@ -82,7 +81,7 @@ pub refusal-spec : {M : Type 1} → statement M
 refusal-spec =
     tie.close
     (tie.spec
-    word-requires
+    states-requires
     mul-if1
     returns
     grow-requires

@@ -3,8 +3,6 @@ use mathlib.Core.Path.{sym, _∙_}
 use Rattle.readings.proofs.Turn.{recorded-some, late-none, late-some}
 use Rattle.readings.proofs.read.accept_at_end.Statement.{statement}
 use Rattle.readings.proofs.read.accept_at_end.Tie as tie
-use Rattle.readings.proofs.read.accept_at_end.Reads as reads
-use Rattle.readings.proofs.read.accept_at_end.Lts as lts
 
 returns : tie.Need-returns
 returns c = sym (late-none _ _ _ (c .if1 .taken))

@@ -5,8 +5,6 @@ use Rattle.graph_rules.specs.Graph.{orNone}
 use Rattle.readings.proofs.Turn.{recorded-some, late-none, late-zero, late-back}
 use Rattle.readings.proofs.read.accepted.Statement.{statement}
 use Rattle.readings.proofs.read.accepted.Tie as tie
-use Rattle.readings.proofs.read.accepted.Reads as reads
-use Rattle.readings.proofs.read.accepted.Lts as lts
 use Rattle.graph_rules.specs.Layout.{noLeaf}
 
 returns : tie.Need-returns

@@ -4,8 +4,6 @@ use native.Mathlib.Omega.{arith}
 use borrow.Author.Needs.{needs}
 use Rattle.readings.proofs.read.byte.Statement.{statement}
 use Rattle.readings.proofs.read.byte.Tie as tie
-use Rattle.readings.proofs.read.byte.Reads as reads
-use Rattle.readings.proofs.read.byte.Lts as lts
 
 shared-slice-read-result : tie.Need-shared-slice-read-result
 shared-slice-read-result c = search needs

@@ -1,7 +1,7 @@
--- The comparisons of an edge are tested where they stand: each part is lent from its place in the edge's 12 bytes. Assumes nothing.
+-- The comparisons of an edge are tested where they stand: each part is lent from its place in the edge's bytes. Assumes nothing.
 use borrow.Author.Needs.{needs}
-use Prim.Native.Nat.{_*_}
 use native.Mathlib.Omega.{arith}
+use Rattle.runner.specs.Prepared.{slot}
 use Rattle.runner.proofs.Packed.{parts-hold}
 use Rattle.runner.proofs.comparisons.listed_hold.Statement.{statement}
 use Rattle.runner.proofs.comparisons.listed_hold.Tie as tie
@@ -13,7 +13,7 @@ shared-slice-read-count : tie.Need-shared-slice-read-count
 shared-slice-read-count c = search needs
 
 cast-count : tie.Need-cast-count
-cast-count c = omega (arith, c .shared-slice-known2 .given (12 * c .before .before .args .e))
+cast-count c = omega (arith, c .shared-slice-known2 .given (slot (c .before .before .args .e)))
 
 add-some-holds : tie.Need-add-some-holds
 add-some-holds c = search needs

@@ -11,10 +11,6 @@ use Rattle.mask_store.specs.Masks.{maskHas}
 use Rattle.runner.proofs.SelfRun.{read-bit}
 use Rattle.runner.proofs.self_run.self_run.Statement.{statement}
 use Rattle.runner.proofs.self_run.self_run.Tie as tie
-use Rattle.runner.proofs.self_run.self_run.Reads as reads
-use Rattle.runner.proofs.self_run.self_run.Lts as lts
-use Rattle.bits.proofs.test_bit.Reads as test-bit-reads
-use Rattle.readings.proofs.read.byte.Reads as byte-reads
 
 abbrev Inv-loop : tie.InvT-loop
 Inv-loop tables i text from base bit k₀ k = (from ≤ k) × (k ≤ length text) × ((j : ℕ) → j < k → from ≤ j → maskHas tables i (getD text j 0) ≡ true)

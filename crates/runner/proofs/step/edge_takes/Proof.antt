@@ -6,10 +6,6 @@ use Rattle.classes.specs.Classes.{Comparison, someHolds}
 use Rattle.runner.proofs.Leading.{edge-none, edge-tests, edge-mask}
 use Rattle.runner.proofs.step.edge_takes.Statement.{statement}
 use Rattle.runner.proofs.step.edge_takes.Tie as tie
-use Rattle.runner.proofs.step.edge_takes.Reads as reads
-use Rattle.runner.proofs.step.edge_takes.Lts as lts
-use Rattle.mask_store.proofs.tables.mask_has.Reads as mask-has-reads
-use Rattle.runner.proofs.comparisons.edge_holds.Reads as edge-holds-reads
 
 returns : tie.Need-returns
 returns c = λ st u f. sym (edge-none _ st _ u _ (c .if1 .taken))

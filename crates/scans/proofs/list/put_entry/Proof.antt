@@ -1,9 +1,10 @@
 -- Three words, one after another. Assumes nothing.
-use mathlib.Core.Path.{ap}
-use Prim.Native.Nat.{ℕ, _+_, _*_}
+use mathlib.Core.Path.{_≡_}
+use Prim.Native.Nat.{suc, _+_, _*_}
 use native.Mathlib.Omega.{arith}
 use lib.ListN.{set, length-set}
 use borrow.Author.Needs.{needs}
+use Rattle.scans.specs.List.{entrySize}
 use Rattle.scans.proofs.list.put_entry.Statement.{statement}
 use Rattle.scans.proofs.list.put_entry.Tie as tie
 
@@ -43,7 +44,10 @@ same-length c = search needs
 returns : tie.Need-returns
 returns c =
     let a = c .before .before .args in
-    ap (λ (x : ℕ). set (set (set (a .out .now) (3 * a .n) (a .at)) (3 * a .n + 1) (a .e .end)) (3 * a .n + 2) x) (c .leaf-word .ensures)
+    let leaf = c .leaf-word .ensures in
+    let p : entrySize * a .n + 1 ≡ suc (entrySize * a .n) = omega arith in
+    let q : entrySize * a .n + 2 ≡ suc (suc (entrySize * a .n)) = omega arith in
+    λ i. set (set (set (a .out .now) (entrySize * a .n) (a .at)) (p i) (a .e .end)) (q i) (leaf i)
 
 pub put-entry-spec : {M : Type 1} → statement M
 put-entry-spec =

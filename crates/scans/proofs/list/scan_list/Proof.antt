@@ -1,4 +1,4 @@
--- A refusal with everything as found, or the entries from the scan's offset on. Assumes nothing.
+-- A refusal with everything unchanged, or the entries from the scan's offset on. Assumes nothing.
 use mathlib.Core.Path.{sym, _∙_}
 use borrow.Author.Tests.{not-true, not-false}
 use Rattle.scans.proofs.ListAnswers.{both, list-unfit, list-past, list-over, list-taken}

@@ -4,8 +4,6 @@ use Rattle.scans.specs.Scan.{gapLength}
 use borrow.Author.Needs.{needs}
 use Rattle.scans.proofs.scan.gap.Statement.{statement}
 use Rattle.scans.proofs.scan.gap.Tie as tie
-use Rattle.scans.proofs.scan.gap.Reads as reads
-use Rattle.scans.proofs.scan.gap.Lts as lts
 
 add-end : tie.Need-add-end
 add-end c = search needs

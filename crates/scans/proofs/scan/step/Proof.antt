@@ -6,10 +6,6 @@ use Rattle.scans.proofs.Entries.{scan-past, scan-ends, scan-goes, scan-
 use borrow.Author.Needs.{needs}
 use Rattle.scans.proofs.scan.step.Statement.{statement}
 use Rattle.scans.proofs.scan.step.Tie as tie
-use Rattle.scans.proofs.scan.step.Reads as reads
-use Rattle.scans.proofs.scan.step.Lts as lts
-use Rattle.scans.proofs.scan.read_entry.Reads as read-entry-reads
-use Rattle.scans.proofs.scan.scanned_by.Reads as scanned-by-reads
 
 enum-known-place : tie.Need-enum-known-place
 enum-known-place c = search needs

@@ -1,9 +1,7 @@
 -- `pattern::tree::each_once` meets its contract. The loop's invariant: the counts before i are 1. The measure is what is left of them.
 -- Assumes nothing.
 use mathlib.Core.Path.{sym}
-use mathlib.Core.Bool.{Bool}
-use mathlib.Core.List.{List}
-use Prim.Native.Nat.{ℕ, _+_, _-_, _≤_}
+use Prim.Native.Nat.{_-_, _≤_}
 use native.Mathlib.Omega.{arith}
 use lib.Dec.{eqb}
 use lib.ListN.{getD}

@@ -1,11 +1,9 @@
 -- `pattern::tree::times_named` meets its contract. The loop's invariant: the counts are those of the records before i (`Tallied`). The
 -- measure is what is left of the records. Assumes nothing.
-use Prim.Native.Nat.{_+_, _-_, _*_, _≤_, _<_}
+use Prim.Native.Nat.{_+_, _-_, _≤_, _<_}
 use native.Mathlib.Omega.{arith}
-use lib.ListN.{getD}
 use borrow.Author.Needs.{needs}
-use Rattle.trees.specs.Tree.{count, recordOf}
-use Rattle.trees.proofs.Naming.{Tallied, raised, tally-starts, tally-most, raised-most, tally-goes, tally-ends}
+use Rattle.trees.proofs.Naming.{Tallied, tally-starts, tally-most, raised-most, tally-goes, tally-ends}
 use Rattle.trees.proofs.tree.times_named.Statement.{statement}
 use Rattle.trees.proofs.tree.times_named.Tie as tie
 

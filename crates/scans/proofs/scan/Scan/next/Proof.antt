@@ -5,10 +5,6 @@ use Rattle.scans.proofs.Entries.{next-refused, next-taken}
 use borrow.Author.Needs.{needs}
 use Rattle.scans.proofs.scan.Scan.next.Statement.{statement}
 use Rattle.scans.proofs.scan.Scan.next.Tie as tie
-use Rattle.scans.proofs.scan.Scan.next.Reads as reads
-use Rattle.scans.proofs.scan.Scan.next.Lts as lts
-use Rattle.scans.proofs.scan.step.Reads as step-reads
-use Rattle.words.proofs.graph.fits.Reads as fits-reads
 
 fits-requires : tie.Need-fits-requires
 fits-requires c κs = search needs
