@@ -4,7 +4,7 @@ use mathlib.Core.Path.{_≡_, refl, sym}
 use mathlib.Core.Bool.{true}
 use mathlib.Core.List.{List, [], _∷_, _++_}
 use mathlib.Core.Option.{some}
-use Prim.Native.Nat.{ℕ, zero, suc, _<_}
+use Prim.Native.Nat.{ℕ, zero, suc, _+_, _<_}
 use native.Mathlib.Omega.{arith}
 use borrow.Author.Tests.{eqb-true}
 use lib.Dec.{eqb}
@@ -12,10 +12,12 @@ use lib.ListN.{length, replicate, length-replicate}
 use Rattle.lists.specs.Lists.{allL}
 use Rattle.lists.proofs.Bools.{none-some}
 use Rattle.lists.proofs.Elements.{all-at}
-use Rattle.graph_rules.specs.Table.{Table, tableOf, step, rowOf}
-use Rattle.graph_rules.specs.Build.{build, emptyLeaves, chain, leafOf}
+use Rattle.graph_rules.specs.Table.{Table, tableOf, refusal, step, rowOf}
+use Rattle.graph_rules.specs.Build.{emptyLeaves, chain, leafOf}
 use Rattle.graph_rules.specs.Graph.{graphBuffer, stateFrom, graphFrom, graphFits}
 use Rattle.graph_rules.specs.Read.{Bytes, Orderly, Clean}
+use Rattle.graph_rules.specs.Clean.{isClean}
+use Rattle.graph_rules.proofs.Cleanness.{clean-means}
 use Rattle.readings.specs.Answers.{tableRead}
 use Rattle.graph.specs.New.{conflicts, wrote, wroteOr9, writtenOr, newOf}
 use Rattle.graph.specs.declared.new.BuildAnswer.the-variants.{Built as Made}
@@ -30,58 +32,27 @@ use Rattle.plans.specs.Run.{runCall}
 use Rattle.plans.proofs.Demand3.{own-alike, calls-alike}
 use Rattle.cases.specs.Answers.{costOf, refusalOf, graphOf}
 use Rattle.cases.specs.Table.{by, all, k1, k4}
-use Rattle.graph_rules.specs.Layout.{stepCount}
-
--- a table whose state 0 has 257 steps, all to itself
-zero-step : (t : Table) → allL (eqb 0) (rowOf t 0 .steps) ≡ true → length (rowOf t 0 .steps) ≡ stepCount → (c : ℕ) → c < stepCount → step t 0 c ≡ 0
-unfolding step
-zero-step t all long c h = sym (eqb-true _ _ (all-at (eqb 0) (rowOf t 0 .steps) c 0 all (omega arith)))
+use Rattle.cases.specs.Cleanness.{cleanNumbers}
+use Rattle.graph_rules.specs.Layout.{stepCount, graphSize}
 
 -- ---- K1
 
-k1-zero : allL (eqb 0) (rowOf (tableOf k1) 0 .steps) ≡ true
-unfolding k1 graphOf
-k1-zero = refl
-
-k1-long : length (rowOf (tableOf k1) 0 .steps) ≡ stepCount
-unfolding k1 graphOf
-k1-long = refl
-
-k1-ends : (s l : ℕ) → ((b : ℕ) → b < 256 → leafOf (tableOf k1) (step (tableOf k1) s b) ≡ some l) → step (tableOf k1) s 256 ≡ 0 → ⊥
-unfolding k1 graphOf
-k1-ends zero l h e = none-some (h 0 (omega arith))
-k1-ends (suc zero) l h e = none-some (h 0 (omega arith))
-k1-ends (suc (suc zero)) l h e = let z : _≡_ {A = ℕ} 3 0 = e in omega arith
-k1-ends (suc (suc (suc zero))) l h e = none-some (h 0 (omega arith))
-k1-ends (suc (suc (suc (suc s)))) l h e = none-some (h 0 (omega arith))
-
-k1-no-error : build (tableOf k1) .errors ≡ []
-unfolding k1 graphOf
-k1-no-error = refl
-
-k1-no-chain : chain (tableOf k1) 0 ≡ []
-unfolding k1 graphOf
-k1-no-chain = refl
+k1-legal : refusal k1 ≡ 0
+unfolding k1 refusalOf
+k1-legal = refl
 
 pub k1-clean : Clean (tableOf k1)
-k1-clean =
-    record {
-      no-error = k1-no-error;
-      orderly = record {
-        zero-chain = k1-no-chain;
-        zero-steps = zero-step (tableOf k1) k1-zero k1-long;
-        end-too = λ s₀ s l st r h e. k1-ends s l h e;
-      };
-    }
+unfolding k1 cleanNumbers isClean
+k1-clean = clean-means k1 k1-legal refl
 
 -- into buffers that have a word more than is needed
-pub k1-made : newOf k1 (replicate 1035 7) (7 ∷ []) .answer ≡ Made (record { states = 2; root = 0; errors = 0; words = 0 })
+pub k1-made : newOf k1 (replicate (graphSize 4 + 1) 7) (7 ∷ []) .answer ≡ Made (record { states = 2; root = 0; errors = 0; words = 0 })
 unfolding k1 refusalOf graphOf newOf writtenOr wroteOr9 wrote conflicts
 k1-made = refl
 
 -- planning the words that this build returned, on an empty store: no class is added
 abbrev pub k1-words : List ℕ
-k1-words = newOf k1 (replicate 1035 7) (7 ∷ []) .graph
+k1-words = newOf k1 (replicate (graphSize 4 + 1) 7) (7 ∷ []) .graph
 
 unfoldable pub emptied : MaskStore
 emptied = record { tables = replicate 2048 0; count = 0 }
@@ -99,54 +70,27 @@ emptied-size = length-replicate {A = ℕ} 2048 0
 
 -- so of every text the run by that plan, on the store that planning left, answers the table's reading
 pub k1-runs : (text : List ℕ) → Bytes text → runCall base k1-words (k1-call .buffer) (k1-call .planning .store) text ≡ tableRead k1 text
-k1-runs = own-alike base base-sane k1 (replicate 1035 7) (7 ∷ []) _ k1-made k1-clean (replicate 7 7) emptied emptied-size 0 k1-planned
+k1-runs = own-alike base base-sane k1 (replicate (graphSize 4 + 1) 7) (7 ∷ []) _ k1-made k1-clean (replicate 7 7) emptied emptied-size 0 k1-planned
 
 -- ---- a table whose graph has a self edge: state 1 goes by `a` to 2, which `a` leads back to, and every other byte and the end to 3, where a leaf is
 
 unfoldable pub looped : List ℕ
 looped = 4 ∷ 1 ∷ 1 ∷ 1 ∷ 2 ∷ 0 ∷ 0 ∷ (all 0 0 ++ (by 97 2 ++ (replicate 97 3 ++ 2 ∷ (replicate 159 3 ++ 0 ∷ (all 0 1 ++ 0 ∷ 0 ∷ [])))))
 
-looped-zero : allL (eqb 0) (rowOf (tableOf looped) 0 .steps) ≡ true
-unfolding looped graphOf
-looped-zero = refl
-
-looped-long : length (rowOf (tableOf looped) 0 .steps) ≡ stepCount
-unfolding looped graphOf
-looped-long = refl
-
-looped-ends : (s l : ℕ) → ((b : ℕ) → b < 256 → leafOf (tableOf looped) (step (tableOf looped) s b) ≡ some l) → step (tableOf looped) s 256 ≡ 0 → ⊥
-unfolding looped graphOf
-looped-ends zero l h e = none-some (h 0 (omega arith))
-looped-ends (suc zero) l h e = none-some (h 0 (omega arith))
-looped-ends (suc (suc zero)) l h e = let z : _≡_ {A = ℕ} 3 0 = e in omega arith
-looped-ends (suc (suc (suc zero))) l h e = none-some (h 0 (omega arith))
-looped-ends (suc (suc (suc (suc s)))) l h e = none-some (h 0 (omega arith))
-
-looped-no-error : build (tableOf looped) .errors ≡ []
-unfolding looped graphOf
-looped-no-error = refl
-
-looped-no-chain : chain (tableOf looped) 0 ≡ []
-unfolding looped graphOf
-looped-no-chain = refl
+looped-legal : refusal looped ≡ 0
+unfolding looped refusalOf
+looped-legal = refl
 
 pub looped-clean : Clean (tableOf looped)
-looped-clean =
-    record {
-      no-error = looped-no-error;
-      orderly = record {
-        zero-chain = looped-no-chain;
-        zero-steps = zero-step (tableOf looped) looped-zero looped-long;
-        end-too = λ s₀ s l st r h e. looped-ends s l h e;
-      };
-    }
+unfolding looped cleanNumbers isClean
+looped-clean = clean-means looped looped-legal refl
 
-pub looped-made : newOf looped (replicate 1034 7) [] .answer ≡ Made (record { states = 3; root = 0; errors = 0; words = 0 })
+pub looped-made : newOf looped (replicate (graphSize 4) 7) [] .answer ≡ Made (record { states = 3; root = 0; errors = 0; words = 0 })
 unfolding looped refusalOf graphOf newOf writtenOr wroteOr9 wrote conflicts
 looped-made = refl
 
 abbrev pub looped-words : List ℕ
-looped-words = newOf looped (replicate 1034 7) [] .graph
+looped-words = newOf looped (replicate (graphSize 4) 7) [] .graph
 
 -- planning it on an empty store adds the class of `a`
 abbrev pub looped-call : PlanCall
@@ -157,7 +101,7 @@ unfolding looped refusalOf graphOf newOf writtenOr wroteOr9 wrote conflicts empt
 looped-planned = refl
 
 pub looped-runs : (text : List ℕ) → Bytes text → runCall base looped-words (looped-call .buffer) (looped-call .planning .store) text ≡ tableRead looped text
-looped-runs = own-alike base base-sane looped (replicate 1034 7) [] _ looped-made looped-clean (replicate 9 7) emptied emptied-size 1 looped-planned
+looped-runs = own-alike base base-sane looped (replicate (graphSize 4) 7) [] _ looped-made looped-clean (replicate 9 7) emptied emptied-size 1 looped-planned
 
 -- and on a store that planning did not leave: `a` is mask 0 as in the plan, masks 1 and 2 are other classes, every bit from mask 3 on is set
 unfoldable pub elsewhere : MaskStore
@@ -173,10 +117,15 @@ elsewhere-holds = refl
 
 pub looped-elsewhere : (text : List ℕ) → Bytes text → runCall base looped-words (looped-call .buffer) elsewhere text ≡ tableRead looped text
 looped-elsewhere text bytes =
-    calls-alike looped (replicate 1034 7) [] _ looped-made looped-clean text bytes
+    calls-alike looped (replicate (graphSize 4) 7) [] _ looped-made looped-clean text bytes
     .run-alike (replicate 9 7) emptied 1 looped-planned elsewhere elsewhere-allowed elsewhere-holds
 
 -- ---- K4
+
+-- a state 0 all of whose steps lead to itself
+zero-step : (t : Table) → allL (eqb 0) (rowOf t 0 .steps) ≡ true → length (rowOf t 0 .steps) ≡ stepCount → (c : ℕ) → c < stepCount → step t 0 c ≡ 0
+unfolding step
+zero-step t all long c h = sym (eqb-true _ _ (all-at (eqb 0) (rowOf t 0 .steps) c 0 all (omega arith)))
 
 k4-zero : allL (eqb 0) (rowOf (tableOf k4) 0 .steps) ≡ true
 unfolding k4 graphOf
@@ -209,6 +158,6 @@ pub k4-no-empty : emptyLeaves (tableOf k4) ≡ []
 unfolding k4 graphOf
 k4-no-empty = refl
 
-pub k4-made : newOf k4 (replicate 776 7) (7 ∷ 7 ∷ 7 ∷ 7 ∷ []) .answer ≡ Made (record { states = 1; root = 0; errors = 1; words = 4 })
+pub k4-made : newOf k4 (replicate (graphSize 3) 7) (7 ∷ 7 ∷ 7 ∷ 7 ∷ []) .answer ≡ Made (record { states = 1; root = 0; errors = 1; words = 4 })
 unfolding k4 refusalOf graphOf newOf writtenOr wroteOr9 wrote conflicts
 k4-made = refl

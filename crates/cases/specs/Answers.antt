@@ -1,6 +1,5 @@
 -- What the definitions answer, as lists of numbers, so that every case is one kind of equation. Each name unfolds all that it computes with.
-use mathlib.Core.List.{List, [], _∷_, _++_, map, flatMap}
-use mathlib.Core.Option.{none, some}
+use mathlib.Core.List.{List, [], _∷_, _++_, flatMap}
 use Prim.Native.Nat.{ℕ, zero, suc, _/_, _%_}
 use Rattle.lists.specs.Sets.{closure, round, rounds}
 use Rattle.lists.specs.Report.{Report}

@@ -1,7 +1,7 @@
 -- The cases of document 01, a row each: what the definitions answer, and what document 01 says.
 use mathlib.Core.Bool.{Bool, true, false}
 use mathlib.Core.List.{List, [], _∷_, _++_}
-use Prim.Native.Nat.{ℕ, _+_, _-_, _*_}
+use Prim.Native.Nat.{ℕ, _+_, _*_}
 use lib.ListN.{replicate, take}
 use Rattle.classes.specs.Classes.{Class}
 use Rattle.display.specs.Text.{bytes}

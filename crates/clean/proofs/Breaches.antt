@@ -39,7 +39,7 @@ module _ (t : Table) where
       go [] n = absurd (n refl)
       go (x ∷ l) n = refl
 
-  -- an error of ties: at the lowest reached state that is tied
+  -- a conflict of ties: at the lowest reached state that is tied
   module _ (s : ℕ) (e : t .start ≡ some s) where
     abbrev states : List ℕ
     states = select (reached t s) (below (size t))

@@ -1,4 +1,4 @@
--- In a legal table the leaves of a chain rise strictly and are below m, so a chain, and a tie, has at most 255 of them. By induction along the
+-- In a legal table the leaves of a chain rise strictly and are below m, so a tie has at most so many as a table may have. By induction along the
 -- chain, whose record numbers fall. Assumes nothing.
 use mathlib.Core.Path.{_≡_, refl, sym}
 use mathlib.Core.Bool.{true}

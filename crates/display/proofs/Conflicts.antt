@@ -18,7 +18,7 @@ use Rattle.display.proofs.Joins.{after-next, after-none}
 use Rattle.display.proofs.Decimals.{below-hundred-thousand}
 
 module _ (w : List ℕ) where
-  -- the leaves of the error that the words begin with
+  -- the leaves of the conflict that the words begin with
   abbrev leaves : List ℕ
   leaves = take (getD w 1 0) (drop 2 w)
 
@@ -81,7 +81,7 @@ module _ (w : List ℕ) (small : (i : ℕ) → getD w i 0 < 65536) where
 
 -- ---- the line of a conflict
 
--- what stands after an error's words does not show
+-- what stands after a conflict's words does not show
 pub line-of-error : (e : Error) (rest : List ℕ) → lineOf (errorWords e ++ rest) ≡ conflictLine e
 unfolding lineOf conflictLine
 line-of-error noUniversalStart rest = refl

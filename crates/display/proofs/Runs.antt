@@ -30,7 +30,7 @@ wrote-as {found} {text} {other} {out} {at} {next} e a = subst (λ (t : List ℕ)
 pub wrote-length : {found text out : List ℕ} {at next : ℕ} → Wrote found at text out next → length out ≡ length found
 wrote-length {found} {text} {out} {at} a = ap length (a .buffer) ∙ length-sets found at text
 
--- from the front, where there is room: the text, and the rest as found
+-- from the front, where there is room: the text, and the rest unchanged
 module _ (text : List ℕ) {found out : List ℕ} {next : ℕ} (a : Wrote found 0 text out next) where
   pub front-place : next ≡ length text
   front-place = let p = a .place in omega arith

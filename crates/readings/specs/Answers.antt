@@ -12,7 +12,7 @@ use Rattle.readings.specs.declared.read.Read.{Read}
 use Rattle.readings.specs.declared.read.Read.the-variants.{Found, Nothing, Refused}
 use Rattle.graph_rules.specs.Layout.{noLeaf}
 
--- a reading, by its leaf, 255 if there is none, and its end
+-- a reading, by its leaf, or the word for none, and its end
 abbrev pub recorded : ℕ → ℕ → Reading
 recorded leaf end = cond (eqb leaf noLeaf) none (some (record { leaf = leaf; end = end }))
 

@@ -1,4 +1,4 @@
--- The errors of the leaves from l on are still to be written. The measure is how many those leaves are. Assumes nothing.
+-- The conflicts of the leaves from l on are still to be written. The measure is how many those leaves are. Assumes nothing.
 use mathlib.Core.Path.{_≡_, sym, ap, ap₂, subst₂, _∙_}
 use mathlib.Core.List.{List, map, flatMap}
 use mathlib.Core.Logic.{⊎-elim}
@@ -30,7 +30,7 @@ flag c =
     let at = c .before .before .before .before .before .before in
     c .leaf-word .ensures .0 ∙ sym (empty-word (at .args .table .now) (c .before .before .loop .l) (omega arith))
 
--- the error that a turn writes has room
+-- the conflict that a turn writes has room
 room : (c : tie.Then1 Inv-loop μ-loop)
     → (c .before .before .before .loop .at + 3 ≤ length (c .before .before .before .loop .errors))
     × (length (c .before .before .before .loop .errors) ≡ length (c .before .before .before .before .before .before .before .args .errors .now))

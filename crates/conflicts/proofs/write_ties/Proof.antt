@@ -1,4 +1,4 @@
--- The errors of the ties from the k-th on are still to be written. The measure is how many they are. Assumes nothing.
+-- The conflicts of the ties from the k-th on are still to be written. The measure is how many they are. Assumes nothing.
 use mathlib.Core.Path.{_≡_, sym, ap, subst₂, _∙_}
 use mathlib.Core.List.{List, flatMap}
 use Prim.Native.Nat.{ℕ, _+_, _-_, _≤_}

@@ -21,7 +21,7 @@ returns c =
     let l = left-as (line-refused (a .errors .now) (a .out .now) (sym (f .fits2 .ensures) ∙ not-true _ (c .if1 .taken))) (left-refused 9 (a .out .now)) in
     (l .says, l .holds)
 
--- the words begin with an error
+-- the words begin with a conflict
 taken : (c : tie.Else1) → errorFits (c .before .before .before .before .args .errors .now) ≡ true
 taken c = sym (c .before .fits2 .ensures) ∙ not-false _ (c .if1 .left)
 

@@ -1,4 +1,4 @@
--- The graph's text, a line end, then the errors' lines. Assumes nothing.
+-- The graph's text, a line end, then the conflicts' lines. Assumes nothing.
 use borrow.Author.Needs.{needs}
 use mathlib.Core.List.{List}
 use Prim.Native.Nat.{ℕ}

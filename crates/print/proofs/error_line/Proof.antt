@@ -1,4 +1,4 @@
--- An error's line, then a line end. Assumes nothing.
+-- A conflict's line, then a line end. Assumes nothing.
 use borrow.Author.Needs.{needs}
 use Rattle.display.specs.Text.{bytes}
 use Rattle.display.specs.Display.{lineOf}

@@ -1,4 +1,4 @@
--- The loop's invariant: the words from `from` on begin with the errors left, and their lines are to come. The measure is the errors left.
+-- The loop's invariant: the words from `from` on begin with the conflicts left, and their lines are to come. The measure is how many these are.
 -- Assumes nothing.
 use mathlib.Core.Path.{_≡_, sym, subst, ap, _∙_}
 use mathlib.Core.Bool.{true}
@@ -32,7 +32,7 @@ start l = l .before .before .before
 abbrev words : tie.At-loop Inv-loop μ-loop → List ℕ
 words l = start l .args .errors .now
 
--- the words of the errors left
+-- the words of the conflicts left
 abbrev rest : tie.At-loop Inv-loop μ-loop → List ℕ
 rest l = drop (l .loop .from) (words l)
 
@@ -47,12 +47,12 @@ module _ (l : tie.At-loop Inv-loop μ-loop) (h : 0 < l .loop .left) where
   first-long : l .loop .from + (2 + getD (rest l) 1 0) ≤ length (words l)
   first-long = let e = error-long (rest l) first-fits in let n = length-drop (l .loop .from) (words l) in omega arith
 
-  -- the line of the first error left is next
+  -- the line of the first conflict left is next
   ahead : Underway (start l .args .out .now) (start l .args .at) (errorLines (start l .args .count) (words l))
       (line (lineOf (rest l)) ++ errorLines (l .loop .left - 1) (later (rest l))) (l .loop .out) (l .loop .next)
   ahead = underway-as (lines-next (l .loop .left) (rest l) h) (l .loop .inv .2)
 
-  -- the words after that error
+  -- the words after that conflict
   next-rest : (k : ℕ) → k ≡ getD (rest l) 1 0 → later (rest l) ≡ drop (l .loop .from + (2 + k)) (words l)
   next-rest k e =
       drop-drop (2 + getD (rest l) 1 0) (l .loop .from) (words l)

@@ -17,7 +17,7 @@ read-all-requires c κs = search needs
 enum-known-n : tie.Need-enum-known-n
 enum-known-n c = search needs
 
-within : (c : tie.After-known-report) → let r = c .before .before .before .before in c .before .n .given .0 .0 ≤ length (r .read-all .last .0)
+within : (c : tie.After-known-told) → let r = c .before .before .before .before in c .before .n .given .0 .0 ≤ length (r .read-all .last .0)
 within c =
     let r = c .before .before .before .before in
     let w = rw (c .before .n .given .1) at (r .read-all .ensures) in

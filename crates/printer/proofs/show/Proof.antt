@@ -28,7 +28,7 @@ whole p =
     p .print .ensures .0 ∙ print-room (image p) (r .room .result) (let h = p .print .ensures .1 .1 in let l = r .room .ensures in omega arith)
 
 -- the text ends before the room does
-within : (c : tie.After-known-report) → let p = c .before .before .before .before in c .before .n .given .0 .0 ≤ length (p .print .last .1 .0)
+within : (c : tie.After-known-told) → let p = c .before .before .before .before in c .before .n .given .0 .0 ≤ length (p .print .last .1 .0)
 within c =
     let p = c .before .before .before .before in
     let e = same-bytes (sym (c .before .n .given .1) ∙ whole p) in

@@ -1,4 +1,4 @@
--- Nothing for 65,535, which is no target; otherwise one line. Assumes nothing.
+-- Nothing for the word of no target; otherwise one line. Assumes nothing.
 use borrow.Author.Needs.{needs}
 use borrow.Author.Tests.{eq-eqb, ne-eqb}
 use mathlib.Core.Path.{_≡_, sym, subst}

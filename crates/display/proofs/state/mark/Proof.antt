@@ -1,4 +1,4 @@
--- Nothing for 255, which is no leaf; otherwise name, leaf, and what closes the mark. Assumes nothing.
+-- Nothing for the word of no leaf; otherwise name, leaf, and what closes the mark. Assumes nothing.
 use borrow.Author.Needs.{needs}
 use borrow.Author.Tests.{eq-eqb, ne-eqb}
 use mathlib.Core.Path.{_≡_, sym, subst}

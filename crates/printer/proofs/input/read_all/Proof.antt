@@ -52,11 +52,11 @@ judged-requires c κs = search needs
 enum-known-n : tie.Need-enum-known-n Inv-loop μ-loop
 enum-known-n c = search needs
 
-abbrev loop-of : tie.After-known-report Inv-loop μ-loop → tie.At-loop Inv-loop μ-loop
+abbrev loop-of : tie.After-known-told Inv-loop μ-loop → tie.At-loop Inv-loop μ-loop
 loop-of c = c .before .before .before .before .before .before .before .before .before .before .before .before
 
 -- what was read fits into the part of the buffer that was lent
-within : (c : tie.After-known-report Inv-loop μ-loop) → loop-of c .loop .done + c .before .n .given .0 .0 ≤ length (loop-of c .loop .buf)
+within : (c : tie.After-known-told Inv-loop μ-loop) → loop-of c .loop .done + c .before .n .given .0 .0 ≤ length (loop-of c .loop .buf)
 within c =
     let j = c .before .before .before in
     let b = j .before .before .before .before in

@@ -48,11 +48,11 @@ judged-requires c κs = search needs
 enum-known-n : tie.Need-enum-known-n Inv-loop μ-loop
 enum-known-n c = search needs
 
-abbrev loop-of : tie.After-known-report Inv-loop μ-loop → tie.At-loop Inv-loop μ-loop
+abbrev loop-of : tie.After-known-told Inv-loop μ-loop → tie.At-loop Inv-loop μ-loop
 loop-of c = c .before .before .before .before .before .before .before .before .before
 
 -- what was written is no more than the part of the text that was handed over
-within : (c : tie.After-known-report Inv-loop μ-loop) → loop-of c .loop .done + c .before .n .given .0 .0 ≤ length (loop-of c .before .before .args .text .now)
+within : (c : tie.After-known-told Inv-loop μ-loop) → loop-of c .loop .done + c .before .n .given .0 .0 ≤ length (loop-of c .before .before .args .text .now)
 within c =
     let w = simp (length-take, length-drop) at (rw (c .before .n .given .1) at (c .before .before .before .judged .ensures)) in
     omega arith
