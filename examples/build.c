@@ -25,7 +25,7 @@
 #include "balthwyr.h"
 
 /* An image has at most 65,536 bytes, so its table has at most 126 states: these rooms are enough for the words of every image. */
-enum { IMAGE = 65536, WORDS = 32768, LINE = 11 + 6 * 255 };
+enum { IMAGE = BALTHWYR_MAX_IMAGE, WORDS = BALTHWYR_MAX_IMAGE / 2, LINE = BALTHWYR_LINE_BYTES(BALTHWYR_MAX_LEAVES) };
 
 static int refused(uint8_t refusal)
 {
@@ -36,7 +36,7 @@ static int refused(uint8_t refusal)
 /* the text of a graph and a line end */
 static int print_graph(const uint16_t *graph, size_t states)
 {
-    size_t room = 6477 * states + 1, length;
+    size_t room = BALTHWYR_TEXT_BYTES(states) + 1, length;
     uint8_t *text = malloc(room);
 
     if (!text) {

@@ -51,8 +51,8 @@ static void print_class(void)
 
     refused_if(add(&number));
     refused_if(balthwyr_cost(flags, sizeof flags, &cost));
-    refused_if(balthwyr_ranges(flags, sizeof flags, (uint8_t *)&ranges, sizeof ranges, &ranges_count));
-    refused_if(balthwyr_impl_with_cmp(flags, sizeof flags, (uint8_t *)&cmp, sizeof cmp, &cmp_count));
+    refused_if(balthwyr_ranges(flags, sizeof flags, BALTHWYR_BYTES_OF(ranges), &ranges_count));
+    refused_if(balthwyr_impl_with_cmp(flags, sizeof flags, BALTHWYR_BYTES_OF(cmp), &cmp_count));
 
     for (size_t i = 0; i < ranges_count; i++) {
         printf("%s%d", i ? " " : "", ranges.first[i]);

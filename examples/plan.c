@@ -28,10 +28,10 @@
 #include "balthwyr.h"
 
 /* An image has at most 65,536 bytes, so its table has at most 126 states: these rooms are enough for the words of every image. */
-enum { IMAGE = 65536, WORDS = 32768, STATES = 126, ROOM = 1024 };
+enum { IMAGE = BALTHWYR_MAX_IMAGE, WORDS = BALTHWYR_MAX_IMAGE / 2, STATES = 126, ROOM = 1024 };
 
 static uint8_t image[IMAGE + 1];
-static uint16_t graph[WORDS], errors[WORDS], plan[3 * STATES];
+static uint16_t graph[WORDS], errors[WORDS], plan[BALTHWYR_PLAN_WORDS(STATES)];
 static struct balthwyr_mask_store store;
 static size_t planned[3 * ROOM], walked[3 * ROOM];
 
@@ -71,23 +71,23 @@ int main(int argc, char **argv)
     size_t length = strlen(argv[2]);
 
     refused_if(balthwyr_build_image(image, size, graph, WORDS, errors, WORDS, &states, &root, &count, &words));
-    size_t graph_len = 2 + 258 * states;
+    size_t graph_len = BALTHWYR_GRAPH_WORDS(states), plan_len = BALTHWYR_PLAN_WORDS(states);
 
     /* the store grows in the call; it counts no class yet, so its bytes mean nothing */
     store.count = 0;
-    refused_if(balthwyr_plan(graph, graph_len, plan, 3 * states, store.tables, sizeof store.tables, &store.count, &added));
+    refused_if(balthwyr_plan(graph, graph_len, plan, plan_len, store.tables, sizeof store.tables, &store.count, &added));
     for (size_t s = 0; s < states; s++) {
         tables += plan[3 * s + 1] == BALTHWYR_TABLE;
     }
     printf("%zu states, %zu by tables, %zu masks\n", states, tables, added);
 
-    refused_if(balthwyr_run(graph, graph_len, plan, 3 * states, store.tables, sizeof store.tables, store.count, text, length, &found,
+    refused_if(balthwyr_run(graph, graph_len, plan, plan_len, store.tables, sizeof store.tables, store.count, text, length, &found,
                             &leaf, &end));
     print_reading("plan", found, leaf, end);
     refused_if(balthwyr_read_graph(graph, graph_len, text, length, &found, &leaf, &end));
     print_reading("walk", found, leaf, end);
 
-    refused_if(balthwyr_scan_planned(graph, graph_len, plan, 3 * states, store.tables, sizeof store.tables, store.count, text, length,
+    refused_if(balthwyr_scan_planned(graph, graph_len, plan, plan_len, store.tables, sizeof store.tables, store.count, text, length,
                                      &scan, planned, 3 * ROOM, &entries));
     for (const size_t *entry = planned; entry < planned + 3 * entries; entry += 3) {
         if (entry[2] == BALTHWYR_NO_LEAF) {

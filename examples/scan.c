@@ -53,7 +53,7 @@ static uint8_t *read_all(const char *name, size_t *size)
 
 int main(int argc, char **argv)
 {
-    size_t graph_size, text_size, entries, out[3 * ROOM], scan = 0;
+    size_t graph_size, text_size, entries, out[BALTHWYR_LIST_WORDS(ROOM)], scan = 0;
 
     if (argc != 3) {
         fprintf(stderr, "usage: scan GRAPH TEXT\n");
@@ -71,7 +71,7 @@ int main(int argc, char **argv)
     }
 
     while (scan != BALTHWYR_ENDED) {
-        uint8_t refusal = balthwyr_scan_list(graph, words, text, text_size, &scan, out, 3 * ROOM, &entries);
+        uint8_t refusal = balthwyr_scan_list(graph, words, text, text_size, &scan, out, BALTHWYR_LIST_WORDS(ROOM), &entries);
         if (refusal) {
             printf("refused %d\n", refusal);
             return 1;

@@ -2,6 +2,7 @@
 # Builds target/bench/bench and runs it: our calls in target/staticlib/libcapi.a beside the original Rust and Rust loops with unchecked indexing.
 #     oracle/bench.sh [NAME..]          the ratios, of all tasks or of the named ones
 #     oracle/bench.sh count [NAME..]    how many instructions one run of each side takes, by valgrind
+# LOGOS_SRC names the original's sources (oracle/crates.sh).
 set -eu
 cd "$(dirname "$0")/.."
 OUT=$PWD/target/bench

@@ -1,5 +1,6 @@
 #!/usr/bin/env bash
-# Builds target/oracle/oracle: the original Rust of logos-codegen over stand-ins, and the driver that asks it.
+# Builds target/oracle/oracle: the original Rust of logos-codegen over stand-ins, and the driver that asks it. LOGOS_SRC names the original's sources
+# (oracle/crates.sh).
 set -eu
 cd "$(dirname "$0")/.."
 OUT=$PWD/target/oracle

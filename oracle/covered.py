@@ -3,7 +3,7 @@
 
     covered.py SEED COUNT
 
-The cases are those of `compare.py builds SEED COUNT`; what kind each is, document 01's rules in oracle/paper say.
+The cases are those of `compare.py builds SEED COUNT`; what kind each is, the rules in oracle/paper say.
 """
 import os
 import sys

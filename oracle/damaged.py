@@ -5,8 +5,8 @@
 
 For each image that is named (examples/*.image without one): every beginning of it, shorter and shorter, and COUNT copies with one to four bytes
 changed. Then images about the longest length, headers at their limits, COUNT images of random bytes, and the tables of COUNT random cases of the
-oracle. Each run must end by itself with status 0 within LIMIT seconds, say nothing on standard error, and print one of the outputs that document 01
-defines, which is the oracle's. The first run that does not ends the comparison with status 1, and its image is left in target/damaged.image.
+oracle. Each run must end by itself with status 0 within LIMIT seconds, say nothing on standard error, and print one of the outputs that
+docs/FORMATS.md has, which is the oracle's. The first run that does not ends the comparison with status 1, and its image is left in target/damaged.image.
 """
 import collections
 import concurrent.futures
@@ -104,7 +104,7 @@ def run(image):
     if ours.returncode != 0 or ours.stderr:
         wrong = f"status {ours.returncode}, standard error {ours.stderr!r}"
     elif not DEFINED.fullmatch(ours.stdout):
-        wrong = "prints what is no output of document 01"
+        wrong = "prints what is no output of docs/FORMATS.md"
     elif ours.stdout != theirs:
         wrong = "differs from the oracle"
     return wrong, ours.stdout, took

@@ -1,7 +1,7 @@
 #!/usr/bin/env python3
-"""Prints the scan of a data image's sample as its .scan has it, by a program that answers case lines.
+"""Prints the scan of an example's sample as its .scan has it, by a program that answers case lines.
 
-    scan-sample.py DATA/NAME PROGRAM ..
+    scan-sample.py examples/NAME PROGRAM ..
 """
 import subprocess
 import sys

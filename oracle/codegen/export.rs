@@ -1,4 +1,4 @@
-//! Takes the place of `graph/export.rs`, which document 01 leaves out. As a child of `graph` it may use that module's private items, so it
+//! Takes the place of `graph/export.rs`, which the port leaves out. As a child of `graph` it may use that module's private items, so it
 //! opens them to the driver without a change to the original's file.
 
 use super::{ByteClass, Comparisons, Graph, State, StateData, StateType};

@@ -1,6 +1,6 @@
 //! What the two stand-in modules hand out of the original's private parts.
 
-/// A state as document 01 lays it out: 256 targets, the end target, accept and early.
+/// A state as docs/FORMATS.md lays it out: 256 targets, the end target, accept and early.
 pub struct Row {
     pub targets: [Option<usize>; 256],
     pub end: Option<usize>,

@@ -1,8 +1,8 @@
-"""Document 01 read a second time: answers to case lines by its rules alone, in the oracle's answer lines.
+"""The rules of docs/RULES.md read a second time: answers to case lines by them alone, in the oracle's answer lines.
 
     python3 oracle/paper NAME < cases
 
-It stands in for the port where there is none yet, and shows where the paper and the Rust differ.
+It stands in for the port where there is none yet, and shows where the rules and the Rust differ.
 """
 import sys
 

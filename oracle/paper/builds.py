@@ -1,4 +1,4 @@
-"""The build (document 01, rules 1 to 8)."""
+"""The build (docs/RULES.md, rules 1 to 8)."""
 from forms import Refused, need, words_of, words_text
 from graphs import Graph
 from tables import Table

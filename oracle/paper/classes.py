@@ -1,4 +1,4 @@
-"""Byte classes and the mask store (document 01, "Edges, costs, masks")."""
+"""Byte classes and the mask store (docs/RULES.md, "Classes and comparisons" and "Masks")."""
 from forms import bytes_of, numbers_text
 
 # ---- a class is the ascending list of its bytes

@@ -29,7 +29,7 @@ def words_text(words):
 
 
 class Refused(Exception):
-    """A refusal; its argument is document 01's number."""
+    """A refusal; its argument is its number in docs/REFUSALS.md."""
 
 
 def need(condition, number):

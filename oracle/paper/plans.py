@@ -1,4 +1,4 @@
-"""Planning and the planned run (document 01, "Edges, costs, masks")."""
+"""Planning and the planned run (docs/RULES.md, "Plan" and "Planned run")."""
 from classes import class_of, comparisons, cost, held_classes, luts, store_add
 from forms import Refused, bytes_of, need, words_of, words_text
 from graphs import graph_of

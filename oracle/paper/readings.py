@@ -1,4 +1,4 @@
-"""Readings and scans (document 01, "Reading a text")."""
+"""Readings and scans (docs/RULES.md, from "Clean" to "Scan")."""
 from builds import build
 from forms import Refused, bytes_of, words_of
 from graphs import graph_of

@@ -1,4 +1,4 @@
-"""Tables (document 01, "The table that comes in")."""
+"""Tables (docs/FORMATS.md, "Table")."""
 from forms import need
 
 

@@ -1,4 +1,4 @@
-"""The text of a graph, and the line of an error (document 01, "Cases")."""
+"""The text of a graph, and the line of an error (docs/FORMATS.md, "Text of a graph")."""
 from classes import ranges
 from forms import Refused, need, words_of
 from graphs import graph_of

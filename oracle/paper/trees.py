@@ -1,4 +1,4 @@
-"""Pattern trees (document 01, "Priorities")."""
+"""Pattern trees (docs/RULES.md, "Pattern trees" and "Priorities")."""
 from forms import bytes_of, need, told, words_of
 
 

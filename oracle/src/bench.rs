@@ -75,15 +75,14 @@ fn text(kind: &str, size: usize) -> Option<Vec<u8>> {
     })
 }
 
-/// Graph words, and a text for them of so many bytes or a few more: those of an image of the data, its sample again and again, or the lexer's.
+/// Graph words, and a text for them of so many bytes or a few more: those of an image of examples/, its sample again and again, or the lexer's.
 fn lexed(kind: &str, size: usize) -> Option<(Vec<u16>, Vec<u8>)> {
     let name = match kind {
         "encoder" => "encoder-lines",
         "json" => "json",
         _ => return Some((texts::lexer(), text(kind, size)?)),
     };
-    let folder = std::env::var("DATA").unwrap_or("../shared/data".to_string());
-    let file = |end: &str| std::fs::read(format!("{folder}/{name}.{end}")).expect("a file of the data");
+    let file = |end: &str| std::fs::read(format!("examples/{name}.{end}")).expect("a file of examples/");
     let sample = file("sample");
     Some((calls::graph_of_image(&file("image")), sample.repeat(size.div_ceil(sample.len()))))
 }

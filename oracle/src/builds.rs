@@ -1,4 +1,4 @@
-//! Builds: what `Graph::new` makes of a table, laid out as document 01 says, and which tables and buffers are refused.
+//! Builds: what `Graph::new` makes of a table, laid out as docs/FORMATS.md says, and which tables and buffers are refused.
 
 use crate::form::number;
 use crate::graphs::words_of_graph;

@@ -1,6 +1,6 @@
 //! The code that the original generates, as a program, and what it must print.
 //!
-//! `as_generated` is the walk of the generated code. It differs from document 01's walk of the graph by the rules of `Departure`; the program
+//! `as_generated` is the walk of the generated code. It differs from the walk of docs/RULES.md by the rules of `Departure`; the program
 //! shows that it is these and no others.
 
 use crate::builds::built;
@@ -59,7 +59,7 @@ pub fn program(lines: &[String]) -> String {
     program + "fn main() {\n    std::panic::set_hook(Box::new(|_| {}));\n" + &calls + "}\n"
 }
 
-/// Where the generated code departs from document 01's walk.
+/// Where the generated code departs from the walk of docs/RULES.md.
 #[derive(Default)]
 struct Departure {
     /// Accept is read at the root before any byte, with an end of -1.
@@ -122,7 +122,7 @@ fn as_generated(graph: &[u16], text: &[u8]) -> (String, Departure) {
     }
 }
 
-/// What the program must print for a case; behind it, if document 01's reading differs, that reading and the rules that were departed from.
+/// What the program must print for a case; behind it, if the reading of docs/RULES.md differs, that reading and the rules that were departed from.
 pub fn answer(line: &str) -> String {
     let (table, text) = table_and_text(line);
     let built = built(&table);

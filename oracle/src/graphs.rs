@@ -1,4 +1,4 @@
-//! Graph words of document 01, condition 12, and the original's graphs in both forms.
+//! Graph words (docs/FORMATS.md), refusal 12, and the original's graphs in both forms.
 
 use crate::original::leaves;
 use logos_codegen::graph::Graph;

@@ -1,4 +1,4 @@
-//! Pattern trees: what `Pattern::priority` and `Pattern::check_for_greedy_all` answer, and which trees document 01 refuses.
+//! Pattern trees: what `Pattern::priority` and `Pattern::check_for_greedy_all` answer, and which trees are refused by 10 and 11.
 
 use crate::form::{bytes_of, bytes_text};
 use crate::words::{words_of, words_text};
@@ -57,7 +57,7 @@ impl Case {
         Record { kind, a, b, flags, first: first as usize, next: next as usize }
     }
 
-    /// Document 01's rules of a tree; a tree that breaks one is refused by 10.
+    /// The rules of a tree (docs/RULES.md, "Pattern trees"); a tree that breaks one is refused by 10.
     fn legal(&self) -> bool {
         let count = self.records();
         if self.tree.len() % 6 != 0 || count == 0 || count > 1024 {

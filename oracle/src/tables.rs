@@ -1,4 +1,4 @@
-//! Tables of document 01: their words, and the conditions that refuse them.
+//! Tables (docs/FORMATS.md): their words, and the conditions that refuse them.
 
 pub mod cases;
 

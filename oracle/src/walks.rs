@@ -1,4 +1,4 @@
-//! Readings and scans by document 01, "Reading a text": small walkers over a table and over graph words.
+//! Readings and scans by docs/RULES.md: small walkers over a table and over graph words.
 
 use crate::graphs::NONE;
 use crate::tables::Legal;

@@ -1,6 +1,6 @@
-//! Stand-in for regex-automata: the names that `graph/mod.rs`, `graph/dfa_util.rs` and `leaf.rs` import, over a table of document 01.
+//! Stand-in for regex-automata: the names that `graph/mod.rs`, `graph/dfa_util.rs` and `leaf.rs` import, over a table of docs/FORMATS.md.
 //!
-//! `table::stage` lays a table down; the DFA that is built next answers from it as document 01, "The table that comes in", says. The
+//! `table::stage` lays a table down; the DFA that is built next answers from it as docs/FORMATS.md, "Table", says. The
 //! patterns that the builder is given are not looked at. The table must have passed conditions 1 to 7.
 
 /// The table that stands under the next DFA.
@@ -135,7 +135,7 @@ pub mod dfa {
         use crate::{Anchored, BuildError, MatchKind};
         use std::marker::PhantomData;
 
-        /// A table of document 01, answering as a DFA.
+        /// A table of docs/FORMATS.md, answering as a DFA.
         #[derive(Clone, Debug)]
         pub struct DFA<T> {
             words: Vec<u16>,

@@ -1,5 +1,5 @@
 //! Stand-in for regex-syntax: the names that `pattern.rs` imports. Nothing is parsed: `hir::stage` lays a tree down, and the next `parse`
-//! answers with it, unsimplified (document 01, "Priorities").
+//! answers with it, unsimplified (docs/RULES.md, "Pattern trees").
 
 pub mod hir {
     use std::cell::RefCell;

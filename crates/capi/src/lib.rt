@@ -3,7 +3,7 @@
 // zeros on a refusal. docs/C-INTERFACE.md says how a program is linked with it.
 //
 // Each function takes its arguments apart, makes one call of a layer below, and stores the answer. Its contract is that call's definition, told in
-// document 01's numbers (`Report` of lists/specs); what is of this interface alone is defined in specs/.
+// numbers (`Report` of lists/specs); what is of this interface alone is defined in specs/.
 
 pub mod build;
 pub mod byte_class;

@@ -1,5 +1,5 @@
 -- Tables that are clean and tables that are not, a row each: what the call `clean` tells (the refusal, the rule that is broken, the state where), and
--- what document 01's "Clean means" says. The answer unfolds all that it computes with.
+-- what its rules say (docs/RULES.md, "Clean"). The answer unfolds all that it computes with.
 use mathlib.Core.List.{List, [], _∷_, _++_}
 use Prim.Native.Nat.{ℕ}
 use lib.ListN.{replicate}

@@ -1,4 +1,4 @@
--- The cases of document 01, a row each: what the definitions answer, and what document 01 says.
+-- The cases K1 to K12, a row each: what the definitions answer, and what they should.
 use mathlib.Core.Bool.{Bool, true, false}
 use mathlib.Core.List.{List, [], _∷_, _++_}
 use Prim.Native.Nat.{ℕ, _+_, _*_}

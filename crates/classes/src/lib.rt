@@ -1,4 +1,4 @@
-// Byte classes (document 01, "Edges, costs, masks"): flags in, maximal ranges and comparisons out, their cost. Nothing here knows of a graph.
+// Byte classes (docs/RULES.md, "Classes and comparisons"): flags in, maximal ranges and comparisons out, their cost. Nothing here knows of a graph.
 //
 // What each call answers is defined in specs/Classes.antt; what follows from the definitions is in proofs/.
 

@@ -1,5 +1,4 @@
--- What `clean` tells in document 01's numbers: 1 to 7, with zeros; or the first rule that the table breaks, 0 for none, and the state where.
--- Assumes nothing.
+-- What `clean` tells in numbers: 1 to 7, with zeros; or the first rule that the table breaks, 0 for none, and the state where. Assumes nothing.
 use mathlib.Core.Path.{_≡_, refl}
 use mathlib.Core.Bool.{true, false}
 use mathlib.Core.List.{List}

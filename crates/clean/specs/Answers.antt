@@ -18,7 +18,7 @@ verdict (some b) = Breaks (b .rule) (b .state)
 unfoldable pub cleanOf : List ℕ → Verdict
 cleanOf table = elim (eqb (refusal table) 0) [ true ↦ verdict (breach (tableOf table)) | false ↦ Refused (refusal table) ]
 
--- in document 01's numbers: the rule that is broken, 0 if none is, and the state where, 65,535 if it belongs to none
+-- in numbers: the rule that is broken, 0 if none is, and the state where, 65,535 if it belongs to none
 abbrev pub breachValues : Option Breach → List ℕ
 breachValues none = 0 ∷ 0 ∷ []
 breachValues (some b) = b .rule ∷ b .state ∷ []

@@ -1,6 +1,6 @@
-// Whether a table is clean (document 01, "Clean means"), and which rule it breaks first, at which state. What the call answers is defined in
-// specs/Answers.antt, over graph_rules/specs/Clean.antt. Each state's leaf is worked out once, so that the time is in proportion to the table's words and
-// to its states' chains.
+// Whether a table is clean (docs/RULES.md, "Clean"), and which rule it breaks first, at which state. What the call answers is defined in
+// specs/Answers.antt, over graph_rules/specs/Clean.antt. Each state's leaf is worked out once, so that the time is in proportion to the table's words
+// and to its states' chains.
 ghost use mathlib.Core.Path.{_≡_};
 ghost use mathlib.Core.List.{[]};
 ghost use mathlib.Core.Option.{some};

@@ -1,4 +1,4 @@
--- What `display` and `error_line` tell in document 01's numbers: the lowest refusal that applies, and 0; or the length of the text. Assumes nothing.
+-- What `display` and `error_line` tell in numbers: the lowest refusal that applies, and 0; or the length of the text. Assumes nothing.
 use mathlib.Core.Path.{_≡_, refl, sym, ap, _∙_}
 use mathlib.Core.Bool.{Bool, true, false, cond, not}
 use mathlib.Core.List.{List, [], _∷_, _++_}

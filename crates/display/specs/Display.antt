@@ -1,5 +1,5 @@
--- The text of a graph, as Rust's `Display` of `Graph`, `StateData`, `ByteClass` and `State` gives it, and the lines of the conflicts (document 01, K1 and
--- the paragraph after it). Definitions only.
+-- The text of a graph, as Rust's `Display` of `Graph`, `StateData`, `ByteClass` and `State` gives it, and the lines of the conflicts
+-- (docs/FORMATS.md, "Text of a graph"). Definitions only.
 use mathlib.Core.Bool.{cond, _&&_, _||_}
 use mathlib.Core.List.{List, [], _∷_, _++_, map}
 use mathlib.Core.Option.{Option, none, some}

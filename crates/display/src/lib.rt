@@ -1,5 +1,5 @@
-// The text of a graph, as Rust's Display gives it, and the lines of its conflicts (document 01, K1 and the paragraph after it). Words of a graph
-// or of a conflict come in, and bytes of text go into a lent buffer, whole or not at all.
+// The text of a graph, as Rust's Display gives it, and the lines of its conflicts (docs/FORMATS.md, "Text of a graph"). Words of a graph or of a
+// conflict come in, and bytes of text go into a lent buffer, whole or not at all.
 //
 // Each inner function writes its part from a place on and hands out the place after it. What passes the buffer's end is counted and not written, so
 // the same function over no bytes measures the text; a call measures first. A state costs a pass over its row for each target that it has.

@@ -1,4 +1,4 @@
--- The byte edges of a state, grouped by target (document 01, rule 4 and "Edges, costs, masks"). Definitions only.
+-- The byte edges of a state, grouped by target (docs/RULES.md, "Edges"). Definitions only.
 use mathlib.Core.Bool.{Bool}
 use mathlib.Core.List.{List, map}
 use mathlib.Core.Option.{Option, some}

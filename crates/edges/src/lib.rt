@@ -1,5 +1,5 @@
-// The byte edges of a state, grouped by target (document 01, "Edges, costs, masks"), from well-formed graph words (refusal 12): the states
-// that they lead to, and the class of the bytes that lead to one. The end step is none of them.
+// The byte edges of a state, grouped by target (docs/RULES.md, "Edges"), from well-formed graph words (refusal 12): the states that they lead to, and
+// the class of the bytes that lead to one. The end step is none of them.
 //
 // They are defined in specs/Edges.antt; what is true of them is in proofs/ByTarget.antt.
 ghost use mathlib.Core.Path.{_≡_};

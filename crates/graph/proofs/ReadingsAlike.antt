@@ -35,7 +35,7 @@ module _ (table graph errors : List ℕ) (c : Counts) (made : newOf table graph 
   pub readings-alike : Clean (tableOf table) → (text : List ℕ) → Bytes text → tableRead table text ≡ graphRead (newOf table graph errors .graph) text
   readings-alike clean text bytes = tied-alike (clean .orderly) (clean-no-empty (tableOf table) clean) text bytes
 
-  -- and so in document 01's numbers
+  -- and so in numbers
   pub told-alike : Clean (tableOf table) → (text : List ℕ) → Bytes text
       → readReport (tableRead table text) ≡ readReport (graphRead (newOf table graph errors .graph) text)
   told-alike clean text bytes = ap readReport (readings-alike clean text bytes)

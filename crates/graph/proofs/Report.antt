@@ -1,5 +1,4 @@
--- What `new` and `from_image` tell in document 01's numbers: the lowest refusal that applies, with zeros; or the counts of the build's lists.
--- Assumes nothing.
+-- What `new` and `from_image` tell in numbers: the lowest refusal that applies, with zeros; or the counts of the build's lists. Assumes nothing.
 use mathlib.Core.Path.{_≡_, refl, sym, ap, _∙_}
 use mathlib.Core.Bool.{Bool, true, false, cond, _||_}
 use mathlib.Core.List.{List, [], _∷_}

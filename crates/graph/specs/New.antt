@@ -13,7 +13,7 @@ use Rattle.graph.specs.declared.new.BuildAnswer.{BuildAnswer}
 use Rattle.graph.specs.declared.new.BuildAnswer.the-variants.{Built as Made, Refused}
 use Rattle.graph_rules.specs.Layout.{graphSize}
 
--- in document 01's numbers: states, root, errors, error words
+-- in numbers: states, root, errors, error words
 abbrev pub builtReport : BuildAnswer → Report
 builtReport (Made c) = reporting (c .states ∷ c .root ∷ c .errors ∷ c .words ∷ [])
 builtReport (Refused n) = refusing n 4

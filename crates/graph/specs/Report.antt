@@ -1,4 +1,4 @@
--- Which refusal the build's calls tell, and the values that they tell otherwise, in document 01's numbers. Definitions only.
+-- Which refusal the build's calls tell, and the values that they tell otherwise, in numbers. Definitions only.
 use mathlib.Core.Bool.{_||_}
 use mathlib.Core.List.{List, [], _∷_}
 use Prim.Native.Nat.{ℕ, _%_}

@@ -1,5 +1,5 @@
-// The build (document 01, "The build, as `Graph::new` does it after the DFA is built"): from a table's words to the graph's words and the
-// conflicts. All that can refuse is decided before a word is written.
+// The build (docs/RULES.md, "The build"): from a table's words to the graph's words and the conflicts. All that can refuse is decided before a word
+// is written.
 use words::NONE;
 use words::STATES;
 ghost use mathlib.Core.Path.{_≡_};

@@ -1,4 +1,4 @@
--- The build (document 01, "The build, as `Graph::new` does it after the DFA is built"), rule by rule. Definitions only.
+-- The build (docs/RULES.md, rules 1 to 8), rule by rule. Definitions only.
 use mathlib.Core.Bool.{Bool, true, false, not, cond, _||_}
 use mathlib.Core.List.{List, [], _∷_, _++_, map}
 use mathlib.Core.Option.{Option, none, some, Option·getD}

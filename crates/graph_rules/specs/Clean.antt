@@ -1,5 +1,5 @@
--- Clean tables (document 01, "Clean means"), by a test that computes: the first of the three rules that a table breaks, and the state where.
--- That it tells what `Clean` says, both ways, is in proofs/Cleanness. Definitions only.
+-- Clean tables (docs/RULES.md, "Clean"), by a test that computes: the first of the three rules that a table breaks, and the state where. That it
+-- tells what `Clean` says, both ways, is in proofs/Cleanness. Definitions only.
 use mathlib.Core.Bool.{Bool, true, false, cond, _&&_}
 use mathlib.Core.List.{List, [], _∷_, map}
 use mathlib.Core.Option.{Option, none, some}

@@ -1,4 +1,4 @@
--- A lexer graph, and its words (document 01, "The graph goes to lent words"). Definitions only.
+-- A lexer graph, and its words (docs/FORMATS.md, "Graph"). Definitions only.
 use mathlib.Core.Path.{_≡_}
 use mathlib.Core.Bool.{Bool, cond, _&&_, _||_}
 use mathlib.Core.List.{List, [], _∷_, _++_, map, flatMap}

@@ -1,4 +1,4 @@
--- Readings of a text (document 01, "Reading a text"), and clean tables. Definitions only.
+-- Readings of a text (docs/RULES.md, "Reading by the table" and "Reading by the graph"), and clean tables. Definitions only.
 use mathlib.Core.Path.{_≡_}
 use mathlib.Core.List.{List, [], _∷_}
 use mathlib.Core.Option.{Option, none, some}

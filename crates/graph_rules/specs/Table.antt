@@ -1,5 +1,5 @@
--- The table that comes in (document 01, "The table that comes in"): its words taken apart once, and the refusals 1 to 7.
--- Definitions only. They are total: of words that are refused, `tableOf` means nothing.
+-- The table that comes in (docs/FORMATS.md, "Table"): its words taken apart once, and the refusals 1 to 7. Definitions only. They are total: of words
+-- that are refused, `tableOf` means nothing.
 use mathlib.Core.Bool.{Bool, true, false, _&&_, _||_}
 use mathlib.Core.List.{List, [], _∷_, map}
 use mathlib.Core.Option.{Option, none, some}

@@ -1,4 +1,4 @@
--- A legal table in the paper's words, on the flat words (`Legal`): refusal 0 means just this, both ways (proofs/Legal). Beside it what the parts of the
+-- A legal table, condition by condition, on the flat words (`Legal`): refusal 0 means just this, both ways (proofs/Legal). Beside it what the parts of the
 -- check answer: the conditions 1 to 3 as facts (`Sized`). Definitions only.
 use mathlib.Core.Path.{_≡_}
 use mathlib.Core.List.{List}

@@ -1,5 +1,5 @@
-// Refusals 1 to 7: the conditions on a table's words, judged in document 01's order, so that no word is read that is not there. And the steps of a
-// table that is not refused.
+// Refusals 1 to 7: the conditions on a table's words, judged in the order of their numbers, so that no word is read that is not there. And the steps
+// of a table that is not refused.
 ghost use mathlib.Core.Path.{_≡_};
 ghost use Prim.Native.Nat.{_<_};
 ghost use lib.ListN.{getD};

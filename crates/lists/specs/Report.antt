@@ -1,5 +1,5 @@
--- What a call tells, in document 01's numbers: "A refusal returns its number and zeros elsewhere". Each enum answer has a definition that
--- gives it in these terms. Definitions only.
+-- What a call tells, in numbers: "A refusal returns its number and zeros elsewhere". Each enum answer has a definition that gives it in these terms.
+-- Definitions only.
 use mathlib.Core.Bool.{Bool, cond}
 use mathlib.Core.List.{List, [], _∷_}
 use Prim.Native.Nat.{ℕ, zero, suc}

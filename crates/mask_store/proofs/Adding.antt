@@ -89,7 +89,7 @@ module _ (s : MaskStore) (c : Class) where
   unfolding add
   add-full a n h = rw (takes-one, a, n, le-ltb (s .count) 64 h)
 
-  -- the answer in document 01's numbers
+  -- the answer in numbers
   pub add-report : addReport (add s c .answer) ≡ cond (takes s (c ∷ [])) (reporting (numberOf (held s) c ∷ [])) (refusing 15 1)
   unfolding add
   add-report = go (takes s (c ∷ []))

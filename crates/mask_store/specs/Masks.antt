@@ -1,4 +1,4 @@
--- The mask store (document 01, "Edges, costs, masks"), its growth, refusal 15, and the eight tables. Definitions only.
+-- The mask store (docs/RULES.md, "Masks"), its growth, refusal 15, and the eight tables. Definitions only.
 use mathlib.Core.Bool.{Bool, true, false, cond, _&&_, not, Bool·beq}
 use mathlib.Core.List.{List, [], _∷_, _++_, map}
 use Prim.Native.Nat.{ℕ, suc, _+_, _*_, _-_, _/_, _%_, _^_, min}
@@ -100,7 +100,7 @@ refusedWith s = record { answer = Refused 15; store = s }
 unfoldable pub add : MaskStore → Class → Added
 add s c = cond (takes s (c ∷ [])) (record { answer = Number (numberOf (held s) c); store = grown s (c ∷ []) }) (refusedWith s)
 
--- its answer in document 01's numbers
+-- its answer in numbers
 abbrev pub addReport : AddAnswer → Report
 addReport (Number i) = reporting (i ∷ [])
 addReport (Refused n) = refusing n 1

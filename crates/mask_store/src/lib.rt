@@ -1,8 +1,8 @@
-// The mask store (document 01, "Edges, costs, masks"): up to 64 classes as bits of eight tables of 256 bytes, each class once, under the number
-// with which it was first met. Mask i is bit i mod 8 of table i / 8. Nothing here knows of a graph, nor what a class costs.
+// The mask store (docs/RULES.md, "Masks"): up to 64 classes as bits of eight tables of 256 bytes, each class once, under the number with which it was
+// first met. Mask i is bit i mod 8 of table i / 8. Nothing here knows of a graph, nor what a class costs.
 //
-// A store comes from outside and may be anything: the public calls `add_by_value`, `add_test_to_lut`, `add_by_loan` and `render_luts` answer 15
-// where document 01 refuses it. What each answers is defined in specs/Masks.antt.
+// A store comes from outside and may be anything: the public calls `add_by_value`, `add_test_to_lut`, `add_by_loan` and `render_luts` answer 15 where
+// it is none (docs/REFUSALS.md). What each answers is defined in specs/Masks.antt.
 ghost use mathlib.Core.Path.{_≡_};
 ghost use mathlib.Core.Bool.{true};
 ghost use Prim.Native.Nat.{_%_, _^_, _<_, _≤_};

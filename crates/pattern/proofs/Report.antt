@@ -1,5 +1,4 @@
--- What `priority` and `check_for_greedy_all` tell in document 01's numbers: 10, then 11, and 0; or the root's value, or 1 for yes and 0 for no.
--- Assumes nothing.
+-- What `priority` and `check_for_greedy_all` tell in numbers: 10, then 11, and 0; or the root's value, or 1 for yes and 0 for no. Assumes nothing.
 use mathlib.Core.Path.{_≡_, refl}
 use mathlib.Core.Bool.{Bool, true, false, cond, not}
 use mathlib.Core.List.{List, [], _∷_}

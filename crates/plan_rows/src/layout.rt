@@ -1,5 +1,5 @@
-// Where the words of a plan stand (document 01, "three words a state"): the self edge's, then those of its edges in target order. All other code
-// reads and writes them through here.
+// Where the words of a plan stand (docs/RULES.md, "Plan"): the self edge's, then those of its edges in target order. All other code reads and writes
+// them through here.
 ghost use mathlib.Core.Path.{_≡_};
 ghost use Prim.Native.Nat.{_<_, _≤_, _+_};
 ghost use lib.Dec.{eqb};

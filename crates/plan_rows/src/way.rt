@@ -1,5 +1,4 @@
-// How a plan has the bytes of a state tested (document 01, "Above 2 byte edges, self included, a 256-entry table is used"; "a mask if its cost is
-// above 2").
+// How a plan has the bytes of a state tested (docs/RULES.md, "Plan").
 ghost use mathlib.Core.Path.{_≡_};
 ghost use mathlib.Core.Bool.{true};
 ghost use Prim.Native.Nat.{_<_};

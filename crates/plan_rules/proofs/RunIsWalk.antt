@@ -26,7 +26,7 @@ use Rattle.lists.proofs.Flattened.{pieces-flat, length-flat}
 use Rattle.plan_rules.proofs.SelfRun.{walk-again}
 use Rattle.plan_rules.proofs.Edges.{row-self, row-led}
 
--- document 01's settings can be read
+-- the calls' settings can be read
 pub base-sane : Sane base
 base-sane = record { enough = omega arith; some-word = omega arith }
 

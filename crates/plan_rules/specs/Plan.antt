@@ -1,4 +1,4 @@
--- The plan of a graph on a mask store (document 01, "Edges, costs, masks"). Definitions only.
+-- The plan of a graph on a mask store (docs/RULES.md, "Plan"). Definitions only.
 use mathlib.Core.Bool.{Bool, cond, _&&_}
 use mathlib.Core.List.{List, [], _∷_, _++_, map, flatMap}
 use Prim.Native.Nat.{ℕ, suc, _+_, _*_, _-_, _≤_}

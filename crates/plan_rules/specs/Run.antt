@@ -1,4 +1,4 @@
--- The planned run of a text (document 01, "A self edge is run to its first other byte .."), and which plan words it takes. Definitions only.
+-- The planned run of a text (docs/RULES.md, "Planned run"), and which plan words it takes. Definitions only.
 use mathlib.Core.Bool.{Bool, true, false, _&&_, _||_}
 use mathlib.Core.List.{List, [], _∷_}
 use mathlib.Core.Option.{Option, none, some}

@@ -1,4 +1,4 @@
--- What planning tells in document 01's numbers: the lowest refusal that applies, and 0; or how many classes the store gains. Assumes nothing.
+-- What planning tells in numbers: the lowest refusal that applies, and 0; or how many classes the store gains. Assumes nothing.
 use mathlib.Core.Path.{_≡_, refl, sym, ap, _∙_}
 use mathlib.Core.Bool.{Bool, true, false, cond, not}
 use mathlib.Core.List.{List, [], _∷_, _++_}

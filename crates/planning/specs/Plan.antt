@@ -1,4 +1,4 @@
--- The call that plans a graph on a mask store (document 01, "Edges, costs, masks"; 12, 14, 15). Definitions only.
+-- The call that plans a graph on a mask store (docs/RULES.md, "Plan"; refusals 12, 14, 15). Definitions only.
 use mathlib.Core.Bool.{cond, not}
 use mathlib.Core.List.{List, [], _∷_, _++_}
 use Prim.Native.Nat.{ℕ, _-_}
@@ -13,7 +13,7 @@ use Rattle.planning.specs.declared.plan.PlanAnswer.{PlanAnswer}
 use Rattle.planning.specs.declared.plan.PlanAnswer.the-variants.{Planned, Refused}
 use Rattle.planning.specs.declared.plan.Planning.{Planning}
 
--- in document 01's numbers: how many classes the store gained
+-- in numbers: how many classes the store gained
 abbrev pub planReport : PlanAnswer → Report
 planReport (Planned n) = reporting (n ∷ [])
 planReport (Refused n) = refusing n 1

@@ -1,4 +1,4 @@
--- Which refusal planning tells, and the classes that it counts otherwise, at document 01's settings. Definitions only.
+-- Which refusal planning tells, and the classes that it counts otherwise, at the calls' settings. Definitions only.
 use mathlib.Core.Bool.{not}
 use mathlib.Core.List.{List, [], _∷_}
 use Prim.Native.Nat.{ℕ, _*_}

@@ -108,7 +108,7 @@ module _ (set : Settings) (sane : Sane set) (table graph errors : List ℕ) (c :
       readings-alike clean text bytes .run-alike buffer store added p (planCall set built buffer store .planning .store)
       (left-allowed set sane built buffer store added p size) (left-holds set sane built buffer store added p size)
 
-  -- and so in document 01's numbers
+  -- and so in numbers
   pub told-alike : Clean (tableOf table) → (buffer : List ℕ) (store : MaskStore) (added : ℕ) → planCall set built buffer store .planning .answer ≡ Planned added
       → (other : MaskStore) → allowed other ≡ true → holdsPlan set (graphFrom built) store other ≡ true → (text : List ℕ) → Bytes text
       → (readReport (graphRead built text) ≡ readReport (tableRead table text))
@@ -117,7 +117,7 @@ module _ (set : Settings) (sane : Sane set) (table graph errors : List ℕ) (c :
       let a = readings-alike clean text bytes in
       (ap readReport (a .graph-alike), ap readReport (a .run-alike buffer store added p other fine holds))
 
--- ---- the same of the calls themselves, whose settings are document 01's: `new` was answered with counts; then what `read_table` answers of a clean table,
+-- ---- the same of the calls themselves, at their settings: `new` was answered with counts; then what `read_table` answers of a clean table,
 -- `read_graph` answers of the words that `new` left, and `run` answers by the plan that `plan` left for them
 
 pub calls-alike : (table graph errors : List ℕ) (c : Counts) → newOf table graph errors .answer ≡ Made c → Clean (tableOf table)

@@ -1,5 +1,5 @@
--- What `run` and `scan_planned` tell in document 01's numbers: the first refusal that applies, with zeros; or the run's reading, and the number of entries.
--- Assumes nothing.
+-- What `run` and `scan_planned` tell in numbers: the first refusal that applies, with zeros; or the run's reading, and the number of entries. Assumes
+-- nothing.
 use mathlib.Core.Path.{_≡_, refl, sym, ap, _∙_}
 use mathlib.Core.Bool.{Bool, true, false, cond, not}
 use mathlib.Core.List.{List, [], _∷_}

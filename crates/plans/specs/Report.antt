@@ -1,4 +1,4 @@
--- Which refusal the planned run and the planned scan tell, at document 01's settings. Definitions only.
+-- Which refusal the planned run and the planned scan tell, at the calls' settings. Definitions only.
 use mathlib.Core.Bool.{not}
 use mathlib.Core.List.{List, [], _∷_, _++_}
 use Prim.Native.Nat.{ℕ, _*_}

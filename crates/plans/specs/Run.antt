@@ -1,4 +1,4 @@
--- The call that runs a text by a plan, and the one that scans a text by it (document 01; 12, 14, 15, 16). Definitions only.
+-- The call that runs a text by a plan, and the one that scans a text by it (docs/RULES.md, "Planned run"; refusals 12, 14, 15, 16). Definitions only.
 use mathlib.Core.Path.{_≡_}
 use mathlib.Core.Bool.{true, false, cond, not}
 use mathlib.Core.List.{List}

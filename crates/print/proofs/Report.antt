@@ -1,5 +1,5 @@
--- What `print` tells in numbers: 29 and 0, or the length of what it prints; and the refusal that it prints is the build's, in document 01's numbers.
--- Assumes nothing.
+-- What `print` tells in numbers: 29 and 0, or the length of what it prints; and the refusal that it prints is the build's, in numbers. Assumes
+-- nothing.
 use mathlib.Core.Path.{_≡_, refl, ap, _∙_}
 use mathlib.Core.List.{List, [], _∷_}
 use Prim.Native.Nat.{ℕ, zero, suc}

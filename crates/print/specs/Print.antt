@@ -1,4 +1,4 @@
--- What the graph printer prints for an image: all its bytes, for every image (document 01, K1 and the paragraph after it). Definitions only.
+-- What the graph printer prints for an image: all its bytes, for every image (docs/FORMATS.md, "Text of a graph"). Definitions only.
 use mathlib.Core.List.{List, _++_, flatMap}
 use Prim.Native.Nat.{ℕ}
 use lib.ListN.{replicate}

@@ -1,5 +1,5 @@
-// All that the graph printer prints (document 01, K1 and the paragraph after it). A table's image comes in, and the printed bytes go into a lent
-// buffer, whole or not at all: the graph's text and a line end, then a line for each conflict; or one line that says the refusal.
+// All that the graph printer prints (docs/FORMATS.md, "Text of a graph"). A table's image comes in, and the printed bytes go into a lent buffer,
+// whole or not at all: the graph's text and a line end, then a line for each conflict; or one line that says the refusal.
 //
 // The build runs once, in buffers of this crate. What is printed is then gone through twice, as in crate `display`: over no bytes, which measures it,
 // and into the buffer.

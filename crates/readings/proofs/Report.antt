@@ -1,5 +1,5 @@
--- What `read_graph` and `read_table` tell in document 01's numbers: 12, or 1 to 7, with zeros; or whether there is a reading, its leaf and its end.
--- Assumes nothing.
+-- What `read_graph` and `read_table` tell in numbers: 12, or 1 to 7, with zeros; or whether there is a reading, its leaf and its end. Assumes
+-- nothing.
 use mathlib.Core.Path.{_≡_, refl}
 use mathlib.Core.Bool.{Bool, true, false, not}
 use mathlib.Core.List.{List}

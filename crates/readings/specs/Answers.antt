@@ -22,7 +22,7 @@ abbrev pub reading : Reading → Read
 reading none = Nothing
 reading (some f) = Found (f .leaf) (f .end)
 
--- in document 01's numbers: whether there is a reading, its leaf, its end
+-- in numbers: whether there is a reading, its leaf, its end
 abbrev pub readReport : Read → Report
 readReport (Found leaf end) = reporting (1 ∷ leaf ∷ end ∷ [])
 readReport Nothing = reporting (0 ∷ 0 ∷ 0 ∷ [])

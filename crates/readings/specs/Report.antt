@@ -1,4 +1,4 @@
--- A reading in document 01's numbers: whether there is one, its leaf, its end. Definitions only.
+-- A reading in numbers: whether there is one, its leaf, its end. Definitions only.
 use mathlib.Core.List.{List, [], _∷_}
 use mathlib.Core.Option.{none, some}
 use Prim.Native.Nat.{ℕ}

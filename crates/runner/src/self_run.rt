@@ -1,4 +1,4 @@
-// The self run (document 01, "k grows while byte k is there and that mask has its bit").
+// The self run (docs/RULES.md, "Planned run").
 ghost use mathlib.Core.Path.{_≡_};
 ghost use mathlib.Core.Bool.{true, false};
 ghost use Prim.Native.Nat.{ℕ, _<_, _≤_, _+_, _*_};

@@ -1,5 +1,5 @@
-// How a byte leads on from a state (document 01, "Byte k is led on by the row's targets if the plan says table; else along the edge whose mask has
-// its bit or whose comparisons hold").
+// How a byte leads on from a state (docs/RULES.md, "Planned run"): by the row's targets if the plan says table, else along the edge whose mask has
+// the byte or whose comparisons hold.
 ghost use mathlib.Core.Path.{_≡_};
 ghost use mathlib.Core.Bool.{true};
 ghost use mathlib.Core.List.{[]};

@@ -1,5 +1,5 @@
--- What `next` and `scan_list` tell in document 01's numbers: the lowest refusal that applies, with zeros; or the token, the gap or the end that the scan
--- comes to, and the number of entries. Assumes nothing.
+-- What `next` and `scan_list` tell in numbers: the lowest refusal that applies, with zeros; or the token, the gap or the end that the scan comes to,
+-- and the number of entries. Assumes nothing.
 use mathlib.Core.Path.{_≡_, refl}
 use mathlib.Core.Bool.{Bool, true, false, cond, not}
 use mathlib.Core.List.{List, [], _∷_}

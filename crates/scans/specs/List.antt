@@ -74,7 +74,7 @@ pub record ScanList : Type 0 where
   pub listed : Listed
   pub buffer : List ℕ
 
--- in document 01's numbers: the number of entries
+-- in numbers: the number of entries
 abbrev pub listReport : ListAnswer → Report
 listReport (Entries n) = reporting (n ∷ [])
 listReport (NoList n) = refusing n 1

@@ -1,4 +1,4 @@
--- Which refusal the scan's calls tell, and the values that they tell otherwise, in document 01's numbers. Definitions only.
+-- Which refusal the scan's calls tell, and the values that they tell otherwise, in numbers. Definitions only.
 use mathlib.Core.Bool.{cond, not}
 use mathlib.Core.List.{List, [], _∷_}
 use Prim.Native.Nat.{ℕ}

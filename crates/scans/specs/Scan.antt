@@ -1,4 +1,4 @@
--- The scan of a text by a graph (document 01, "The scan is a machine over a text and a graph"). Definitions only.
+-- The scan of a text by a graph (docs/RULES.md, "Scan"). Definitions only.
 use mathlib.Core.Bool.{Bool, true, false, cond}
 use mathlib.Core.List.{List, [], _∷_}
 use mathlib.Core.Option.{none, some}
@@ -27,7 +27,7 @@ hasEnded = record { place = HasEnded }
 abbrev pub fresh : Scan
 fresh = readingAt 0
 
--- an answer in document 01's numbers: 1 for a token, 2 for a gap, 0 for ended; leaf, start, end
+-- an answer in numbers: 1 for a token, 2 for a gap, 0 for ended; leaf, start, end
 abbrev pub scanReport : NextAnswer → Report
 scanReport (Token leaf start end) = reporting (1 ∷ leaf ∷ start ∷ end ∷ [])
 scanReport (Gap start end) = reporting (2 ∷ 0 ∷ start ∷ end ∷ [])

@@ -1,5 +1,5 @@
--- A pattern tree (document 01, "Priorities"): its records, the tree that they stand for, and refusal 10.
--- Definitions only. They are total: of records that are refused, the tree means nothing.
+-- A pattern tree (docs/RULES.md, "Pattern trees"): its records, the tree that they stand for, and refusal 10. Definitions only. They are total: of
+-- records that are refused, the tree means nothing.
 use mathlib.Core.Bool.{Bool, true, false, not, _&&_, _||_}
 use mathlib.Core.List.{List, [], _∷_}
 use Prim.Native.Nat.{ℕ, zero, suc, _+_, _*_, _-_, _/_, _%_}

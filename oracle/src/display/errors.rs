@@ -8,7 +8,7 @@ use crate::tables::{Leaf, Table};
 /// Words, and the line of the error that they begin with; 9 where they end before it does.
 pub type Conflict = (Vec<u16>, Result<String, u8>);
 
-/// The line of words that no build writes, or 9, by document 01's form alone.
+/// The line of words that no build writes, or 9, by the form in docs/FORMATS.md alone.
 fn line_of(words: &[u16]) -> Result<String, u8> {
     let leaves = words.get(1).and_then(|count| words.get(2..2 + usize::from(*count))).ok_or(9)?;
     Ok([&words[..1], leaves].concat().iter().fold("error".to_string(), |line, number| format!("{line} {number}")))
