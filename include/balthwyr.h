@@ -11,11 +11,11 @@
  *
  * Memory. Nothing is allocated, nothing is kept between calls, and there is no global state: calls on different memory may run at once. Stack, as
  * measured (examples/stack.c), in KB of 1,024 bytes and rounded up: balthwyr_build_image 200, balthwyr_priority 180, balthwyr_build 136, balthwyr_run
- * and balthwyr_scan_planned 75, balthwyr_plan 45, balthwyr_clean 11, every other function less than 8.
+ * and balthwyr_scan_planned 76, balthwyr_plan 46, balthwyr_clean 26, every other function less than 8.
  *
  * Time. Graph words are checked whole at every call that takes them, and so are store and plan: a call on a short text pays for all states of the
- * graph before it reads a byte. With 55 states a reading of ten bytes takes 0.13 million instructions by the graph and 1.2 million by the plan, with
- * 498 states 1.2 and 16 million (about 0.1 and 2.5 ms). For all tokens of a text use balthwyr_scan_list or balthwyr_scan_planned, which check once.
+ * graph before it reads a byte. With 55 states a reading of ten bytes takes 0.13 million instructions by the graph and 1.3 million by the plan, with
+ * 498 states 1.2 and 17 million (about 0.1 and 3 ms). For all tokens of a text use balthwyr_scan_list or balthwyr_scan_planned, which check once.
  *
  * The library is for x86-64 Linux, so `size_t` has 64 bits. */
 
