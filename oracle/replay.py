@@ -61,9 +61,29 @@ class Stored:
         assert len(words) == length, "runs that do not come out even"
         return words
 
+    def cases(self):
+        """The cases that are left: the kind of each, its numbers, and its parts."""
+        while self.at < len(self.all):
+            end = self.word() + self.at
+            kind, numbers, parts = self.byte(), self.byte(), self.byte()
+            numbers = [self.word() for _ in range(numbers)]
+            ends = [0] + [self.word() for _ in range(parts)]
+            parts = [self.bytes(to - start) for start, to in zip(ends, ends[1:])]
+            assert self.at == end, "a case that does not come out even"
+            yield kind, numbers, parts
+
     def same(self, found, expected, what):
         assert found == expected, f"{what}, before byte {self.at}: stored {expected}, by the rules {found}"
         self.checked += 1
+
+
+def words_of(part):
+    """The words of runs."""
+    words = []
+    for at in range(0, len(part), 4):
+        words += [int.from_bytes(part[at + 2 : at + 4], "little")] * int.from_bytes(part[at : at + 2], "little")
+    assert len(part) % 4 == 0, "bytes that are no runs"
+    return words
 
 
 # ---- classes
@@ -177,12 +197,9 @@ def builds(stored):
 
 
 def display(stored):
-    for text in (texts.display_text, texts.error_text):
-        for _ in range(stored.word()):
-            found = text(stored.words())
-            refusal = stored.byte()
-            expected = f"refused-{refusal}" if refusal else stored.bytes(stored.word()).decode("ascii")
-            stored.same(found, expected, "text")
+    for kind, (refusal,), (words, text) in stored.cases():
+        found = (texts.display_text, texts.error_text)[kind](words_of(words))
+        stored.same(found, f"refused-{refusal}" if refusal else text.decode("ascii"), "text")
 
 
 # ---- readings

@@ -16,6 +16,16 @@ impl Stored {
     }
 }
 
+/// Words in runs, as a part of a case: for each run how often, which word.
+pub fn packed_runs(words: &[u16]) -> Vec<u8> {
+    let mut stored = Stored::default();
+    for (times, value) in runs(words) {
+        stored.half(times);
+        stored.half(usize::from(value));
+    }
+    stored.0
+}
+
 /// Equal neighbours as one, up to 65,535 of them.
 pub fn runs<W: Copy + PartialEq>(words: &[W]) -> Vec<(usize, W)> {
     let mut found: Vec<(usize, W)> = Vec::new();

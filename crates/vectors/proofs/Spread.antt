@@ -2,13 +2,14 @@
 use borrow.Author.Tests.{leb-true, eqb-true, le-leb, lt-leb}
 use mathlib.Core.Path.{_≡_, refl, sym, ap, ap₂, subst, subst₂, _∙_}
 use mathlib.Core.Bool.{Bool, true, false, _&&_}
-use mathlib.Core.List.{List, [], _∷_, _++_}
+use mathlib.Core.List.{List, [], _∷_, _++_, append-assoc}
 use Prim.Native.Nat.{ℕ, zero, suc, _+_, _-_, _≤_, _<_}
 use native.Mathlib.Nat.{add-sub-cancel-left}
 use native.Mathlib.Omega.{arith}
 use lib.Dec.{eqb, leb}
-use lib.ListN.{length, take, drop, replicate, length-append, length-replicate, length-drop}
-use lib.Seq.{sets, take-add, drop-at, drop-drop, length-take-le}
+use lib.ListN.{length, take, drop, replicate, length-append, length-replicate, length-drop, replicate-append-replicate}
+use lib.Seq.{sets, length-sets, take-add, drop-at, drop-drop, length-take-le}
+use Rattle.lists.proofs.Buffers.{sets-append, sets-past}
 use Rattle.lists.specs.Lists.{allL, eqList}
 use Rattle.lists.proofs.Bools.{and-both}
 use Rattle.lists.proofs.Runs.{Underway, run-more, run-room}
@@ -154,3 +155,28 @@ module _ (w : List ℕ) (i : ℕ) (list : List ℕ) (at : ℕ) where
   pub same-there : sound list at ≡ true → i + countAt list at ≤ length w → beginsAt w i (wordsAt list at) ≡ sameRuns w i list at
   unfolding sameRuns
   same-there e h = ap (λ (n : ℕ). eqList eqb (take n (drop i w)) (wordsAt list at)) (sound-is list at e .1) ∙ simp (e, le-leb _ _ h)
+
+-- ---- where a run has no room
+
+module _ (list : List ℕ) (place k r : ℕ) {found all out : List ℕ} {from : ℕ} (more : r < k) (u : Underway found 0 all out from (spread list place (k - r)))
+    (m : ℕ) (here : from + m ≡ length out) (short : m < halfAt list place) where
+  pub spread-past : (out′ : List ℕ) (v : ℕ) → v ≡ halfAt list (place + 2) → out′ ≡ sets out from (replicate m v) → out′ ≡ sets found 0 all
+  spread-past out′ v e w =
+      let x = halfAt list (place + 2) in
+      let past = replicate (halfAt list place - m) x ++ spread list (place + 4) (k - (r + 1)) in
+      let n : m + (halfAt list place - m) ≡ halfAt list place = omega arith in
+      let split : replicate m x ++ past ≡ spread list place (k - r) =
+      sym (append-assoc (replicate m x) (replicate (halfAt list place - m) x) (spread list (place + 4) (k - (r + 1))))
+      ∙ ap (λ (l : List ℕ). l ++ spread list (place + 4) (k - (r + 1))) (replicate-append-replicate m (halfAt list place - m) x ∙ ap (λ (i : ℕ). replicate i x) n)
+      ∙ sym (spread-more list place k r more) in
+      let l = length-replicate m x in
+      let long = length-sets out from (replicate m x) in
+      w
+      ∙ ap (λ (y : ℕ). sets out from (replicate m y)) e
+      ∙ sym (sets-past (sets out from (replicate m x)) (from + length (replicate m x)) past (omega arith))
+      ∙ sym (sets-append out from (replicate m x) past)
+      ∙ ap (sets out from) split
+      ∙ u .same
+
+  pub spread-many : length found < length all
+  spread-many = let n = spread-longer list place k r more in let p = u .place in let l = u .long in omega arith

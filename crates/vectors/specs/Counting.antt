@@ -1,7 +1,9 @@
 -- What a replay counts. Definitions only.
-use mathlib.Core.Bool.{cond}
+use mathlib.Core.Bool.{Bool, cond}
 use Prim.Native.Nat.{ℕ, _+_, min}
 use lib.Dec.{eqb}
+use lib.ListN.{getD, set}
+use mathlib.Core.List.{List}
 use Rattle.vectors.specs.declared.tally.Case.{Case}
 use Rattle.vectors.specs.declared.tally.Tally.{Tally}
 
@@ -23,3 +25,11 @@ noted t case =
       differ = more (t .differ);
       first = cond (eqb (t .differ) 0) (t .alike) (t .first);
     })
+
+-- the kind of the case at a place
+abbrev pub kindAt : List ℕ → ℕ → ℕ
+kindAt list at = getD list (at + 4) 0
+
+-- one more of a kind, if it is to be counted; all kinds from 15 on count as one
+abbrev pub counted : List ℕ → ℕ → Bool → List ℕ
+counted counts kind wanted = cond wanted (set counts (min kind 15) (more (getD counts (min kind 15) 0))) counts

@@ -2,7 +2,7 @@
 -- word". Definitions only.
 use mathlib.Core.Bool.{Bool, cond, _&&_}
 use mathlib.Core.List.{List, [], _++_}
-use Prim.Native.Nat.{ℕ, zero, suc, _+_, _*_}
+use Prim.Native.Nat.{ℕ, zero, suc, _+_, _*_, _/_}
 use lib.Dec.{eqb, leb}
 use lib.ListN.{length, take, drop, replicate}
 use Rattle.lists.specs.Lists.{eqList}
@@ -43,3 +43,7 @@ unpacked list at out = cond (fitting list at (length out)) (wordsAt list at ++ d
 unfoldable pub sameRuns : List ℕ → ℕ → List ℕ → ℕ → Bool
 sameRuns words i list at =
     sound list at && (leb (i + countAt list at) (length words) && eqList eqb (take (countAt list at) (drop i words)) (wordsAt list at))
+
+-- the words of the runs that bytes are
+abbrev pub wordsOf : List ℕ → List ℕ
+wordsOf runs = spread runs 0 (length runs / 4)

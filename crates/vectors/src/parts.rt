@@ -38,6 +38,12 @@ pub fn rest_is(a: &[u8], i: usize, value: u8) -> bool
     true
 }
 
+// Whether a buffer begins with those bytes, and every further one has that value.
+pub fn padded(a: &[u8], front: &[u8], value: u8) -> bool {
+    let n = front.len();
+    n <= a.len() && check::same(&a[0..n], front) && rest_is(a, n, value)
+}
+
 // The words from i up to j get that value.
 pub fn fill(words: &mut [u16], i: usize, j: usize, value: u16)
     requires { ⌜ j ≤ length (now words) ⌝ }
