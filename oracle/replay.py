@@ -137,43 +137,33 @@ def classes(stored):
 # ---- priorities
 
 
-def half_priority(text):
+def priority(text):
     points = trees.code_points(text)
-    return len(text) if points is None else points
+    return 2 * (len(text) if points is None else points)
 
 
 def priorities(stored):
-    pairs, edges = stored.bytes(16384), (0x7F, 0x80, 0xBF, 0xC0)
-    for x in range(256):
-        for y in range(256):
-            code = pairs[(256 * x + y) // 4] >> 2 * (y % 4) & 3
-            points = trees.code_points(bytes((x, y)))
-            stored.same(2 if points is None else points - 1, code, "two bytes")
-    threes = [(x, y, z) for x in range(0xE0, 0xF0) for y in range(256) for z in edges]
-    fours = [(w, x, y, z) for w in range(0xF0, 0xF8) for x in range(256) for y in edges for z in edges]
-    for strings in (threes, fours):
-        bits = stored.bytes(len(strings) // 8)
-        for i, string in enumerate(strings):
-            stored.same(trees.code_points(bytes(string)) == 1, bits[i // 8] >> i % 8 & 1 == 1, "one code point")
-    for _ in range(stored.word()):
-        text = stored.bytes(stored.byte())
-        stored.same(half_priority(text), stored.byte(), "literal")
-    for _ in range(stored.word()):
-        tree(stored)
+    for kind, numbers, parts in stored.cases():
+        (literals, one_string, tree)[kind](stored, numbers, parts)
 
 
-def tree(stored):
-    length, words = stored.half(), []
-    while len(words) < length:
-        given = stored.byte()
-        words += [stored.word() if given >> j & 1 else 0 for j in range(min(6, length - len(words)))]
-    text = stored.bytes(stored.half())
-    refusal, value = stored.byte(), stored.word()
-    found = told(lambda: trees.values(trees.tree_of(words, text), text)[length // 6])
+def literals(stored, numbers, parts):
+    (place,), (string, priorities) = numbers, parts
+    strings = [string[:place] + bytes((byte,)) + string[place + 1 :] for byte in range(256)]
+    stored.same([priority(string) for string in strings], words_of(priorities), "literals")
+
+
+def one_string(stored, numbers, parts):
+    stored.same(priority(*parts), *numbers, "literal")
+
+
+def tree(stored, numbers, parts):
+    (refusal, value, greedy_refusal, greedy), (packed, text) = numbers, parts
+    words = [int.from_bytes(packed[at : at + 4], "little") for at in range(0, len(packed), 4)]
+    found = told(lambda: trees.values(trees.tree_of(words, text), text)[len(words) // 6])
     stored.same(found, f"refused-{refusal}" if refusal else str(value), "priority")
-    refusal, value = stored.byte(), stored.byte()
-    found = told(lambda: trees.greedy_all(trees.tree_of(words, text), length // 6))
-    stored.same(found, f"refused-{refusal}" if refusal else str(value), "greedy")
+    found = told(lambda: trees.greedy_all(trees.tree_of(words, text), len(words) // 6))
+    stored.same(found, f"refused-{greedy_refusal}" if greedy_refusal else str(greedy), "greedy")
 
 
 # ---- builds and texts
