@@ -89,49 +89,50 @@ def words_of(part):
 # ---- classes
 
 
-def one_class(stored):
-    held = classing.class_of(stored.bytes(32))
-    ranges = [(stored.byte(), stored.byte()) for _ in range(stored.byte())]
-    stored.same(classing.ranges(held), ranges, "ranges")
-    comparisons = []
-    for _ in range(stored.byte()):
-        first, last, ops, exceptions = stored.byte(), stored.byte(), stored.byte(), stored.byte()
-        comparisons.append((first, last, list(stored.bytes(exceptions))))
-        stored.same(classing.count_ops(comparisons[-1]), ops, "count_ops")
+def classes(stored):
+    for kind, numbers, parts in stored.cases():
+        (one_class, one_count, one_store)[kind](stored, numbers, parts)
+
+
+def classes_of(part):
+    return [classing.class_of(part[at : at + 32]) for at in range(0, len(part), 32)]
+
+
+def one_class(stored, numbers, parts):
+    held = classing.class_of(parts[0])
+    stored.same(classing.ranges(held), list(zip(parts[1], parts[2], strict=True)), "ranges")
+    comparisons, at = [], 0
+    for first, last, exceptions in zip(*parts[3:6], strict=True):
+        comparisons.append((first, last, list(parts[6][at : at + exceptions])))
+        at += exceptions
+    assert at == len(parts[6]), "exceptions of no comparison"
     stored.same(classing.comparisons(held), comparisons, "comparisons")
-    stored.same(classing.cost(held), stored.half(), "cost")
-    return held
+    stored.same(classing.cost(held), *numbers, "cost")
 
 
-def rendered(stored, store):
-    luts = b"".join(stored.bytes(256) for _ in range(stored.byte()))
-    stored.same(classing.luts(store), luts.ljust(2048, b"\0"), "tables")
+def one_count(stored, numbers, parts):
+    first, last, exceptions, ops = numbers
+    stored.same(classing.count_ops((first, last, [first] * exceptions)), ops, "count_ops")
+
+
+def one_store(stored, numbers, parts):
+    (fill, count, held, refusal), (before, added, masks, after, luts) = numbers, parts
+    tables = planning.tables_of(fill, classes_of(before))
+    store = classing.store_of(tables, count)
+    for flags, number in zip(classes_of(added), masks, strict=True):
+        stored.same(mask(store, flags), number, "mask number")
+    stored.same(count if store is None else len(store), held, "held")
+    stored.same(15 if store is None else 0, refusal, "refusal")
+    if store is None:
+        stored.same(before, after, "tables")
+        return
+    stored.same(planning.tables_of(fill, store + classes_of(before)[len(store) :]), planning.tables_of(fill, classes_of(after)), "tables")
+    stored.same(classing.luts(store), luts.ljust(2048, b"\0"), "rendered tables")
 
 
 def mask(store, added):
     number = classing.store_add(store, added) if store is not None else None
     return 255 if number is None else number
-
-
-def classes(stored):
-    held = [one_class(stored) for _ in range(stored.word())]
-    for _ in range(stored.half()):
-        stored.byte()
-        store = []
-        for _ in range(stored.half()):
-            stored.same(mask(store, held[stored.half()]), stored.byte(), "mask number")
-        stored.same(len(store), stored.byte(), "held")
-        rendered(stored, store)
-    for _ in range(stored.half()):
-        count, tables = stored.word(), stored.bytes(2048)
-        store = classing.store_of(tables, count)
-        for _ in range(stored.half()):
-            stored.same(mask(store, classing.class_of(stored.bytes(32))), stored.byte(), "mask number")
-        stored.same(count if store is None else len(store), stored.word(), "held")
-        refusal = stored.byte()
-        stored.same(15 if store is None else 0, refusal, "refusal")
-        if refusal == 0:
-            rendered(stored, store)
 
 
 # ---- priorities
@@ -170,20 +171,20 @@ def tree(stored, numbers, parts):
 
 
 def builds(stored):
-    for _ in range(stored.word()):
-        words, odd, _ = stored.words(), stored.byte(), stored.byte()
-        graph_buffer, error_buffer, refusal, image = stored.word(), stored.word(), stored.byte(), stored.byte()
-        graph = None
+    for kind, (fill, refusal, *answer), (table, odd, graph_buffer, error_buffer) in stored.cases():
+        words, graph_buffer, error_buffer = words_of(table), words_of(graph_buffer), words_of(error_buffer)
+        graph_words, error_words = [], []
         try:
-            graph, found = building.build_within(words, graph_buffer, error_buffer), 0
+            graph, found = building.build_within(words, len(graph_buffer), len(error_buffer)), 0
+            graph_words, error_words = graph.words(), graph.error_words()
+            graph_words += [0] * (2 + 258 * words[0] - len(graph_words))
+            stored.same([len(graph.rows), graph.root, len(graph.errors), len(error_words)], answer, "answer")
         except Refused as refused:
             found = refused.args[0]
         stored.same(found, refusal, "refusal")
-        stored.same(13 if odd or 2 * len(words) > 65536 else found, image, "refusal of the image")
-        if refusal == 0:
-            stored.same((len(graph.rows), graph.root, len(graph.errors)), (stored.half(), stored.half(), stored.half()), "answer")
-            stored.same(graph.error_words(), stored.words(), "error words")
-            stored.same(graph.words(), stored.words(), "graph words")
+        stored.same(10 if odd or 2 * len(words) > 65536 else found, kind, "refusal of the image")
+        for buffer, given in ((graph_buffer, graph_words), (error_buffer, error_words)):
+            stored.same(given + [fill] * (len(buffer) - len(given)), buffer, "buffer")
 
 
 def display(stored):
