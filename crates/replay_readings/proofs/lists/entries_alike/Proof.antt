@@ -1,15 +1,14 @@
--- `entries::as_found` is safe and ends. The measure is what is left of the words. Assumes nothing.
+-- `lists::entries_alike` is safe and ends. The measure is what is left of the buffer. Assumes nothing.
 use borrow.Author.Needs.{needs}
 use Prim.Native.Nat.{_-_}
-use lib.ListN.{length}
-use Rattle.replay_readings.proofs.entries.as_found.Statement.{statement}
-use Rattle.replay_readings.proofs.entries.as_found.Tie as tie
+use Rattle.replay_readings.proofs.lists.entries_alike.Statement.{statement}
+use Rattle.replay_readings.proofs.lists.entries_alike.Tie as tie
 
 abbrev Inv-loop : tie.InvT-loop
-Inv-loop out i k₀ k = Unit {0}
+Inv-loop out entries done n size k₀ k = Unit {0}
 
 abbrev μ-loop : tie.MeasureT-loop
-μ-loop out i k₀ k = length out - k
+μ-loop out entries done n size k₀ k = size - k
 
 loop-holds : tie.Need-loop-holds Inv-loop μ-loop
 loop-holds c = search needs
@@ -19,6 +18,9 @@ mul-if1 c = search needs
 
 shared-slice-read-if1 : tie.Need-shared-slice-read-if1 Inv-loop μ-loop
 shared-slice-read-if1 c = search needs
+
+expected-requires : tie.Need-expected-requires Inv-loop μ-loop
+expected-requires c κs = search needs
 
 returns : tie.Need-returns Inv-loop μ-loop
 returns c = search needs
@@ -35,8 +37,8 @@ loop-again c = search needs
 returns-2 : tie.Need-returns-2 Inv-loop μ-loop
 returns-2 c = search needs
 
-pub as-found-spec : {M : Type 1} → statement M
-as-found-spec =
+pub entries-alike-spec : {M : Type 1} → statement M
+entries-alike-spec =
     tie.close
     (tie.spec
     Inv-loop
@@ -44,6 +46,7 @@ as-found-spec =
     loop-holds
     mul-if1
     shared-slice-read-if1
+    expected-requires
     returns
     add-k
     loop-less
