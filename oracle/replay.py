@@ -46,20 +46,8 @@ class Stored:
     def byte(self):
         return self.number(1)
 
-    def half(self):
-        return self.number(2)
-
     def word(self):
         return self.number(4)
-
-    def words(self):
-        """Words in runs."""
-        length, words = self.word(), []
-        for _ in range(self.word()):
-            times, value = self.half(), self.half()
-            words += [value] * times
-        assert len(words) == length, "runs that do not come out even"
-        return words
 
     def cases(self):
         """The cases that are left: the kind of each, its numbers, and its parts."""
@@ -196,83 +184,102 @@ def display(stored):
 # ---- readings
 
 
-def stored_reading(stored):
-    leaf, end = stored.half(), stored.half()
-    return None if leaf == 65535 else (leaf, end)
+def reading_of(number):
+    leaf, end = number % 65536, number // 65536
+    return None if (leaf, end) == (65535, 0) else (leaf, end)
 
 
-def stored_pieces(stored, offset):
-    pieces = []
-    for _ in range(stored.half()):
-        leaf, length = stored.byte(), stored.half()
-        pieces.append((None if leaf == 255 else leaf, offset, offset + length))
-        offset += length
-    return pieces
+def pieces_of(part):
+    """Pieces of a scan: leaf, start and end; the part has start, end and leaf of each."""
+    words = [int.from_bytes(part[at : at + 4], "little") for at in range(0, len(part), 4)]
+    entries = zip(words[0::3], words[1::3], words[2::3], strict=True)
+    return [(None if leaf == 65535 else leaf, start, end) for start, end, leaf in entries]
 
 
 def readings(stored):
-    for _ in range(stored.word()):
-        table, words = tables.Table(stored.words()), stored.words()
-        graph = building.build(table)
-        stored.same(graph.words(), words, "graph words")
-        stored.same(reading.clean(table, graph.errors), stored.byte() == 1, "clean")
-        for _ in range(stored.half()):
-            text = stored.bytes(stored.half())
-            stored.same(reading.read_table(table, text), stored_reading(stored), "reading of the table")
-            stored.same(reading.read_graph(graph, text), stored_reading(stored), "reading of the graph")
-            stored.same(reading.scan(graph, text, 0), stored_pieces(stored, 0), "scan")
-    for _ in range(stored.word()):
-        words = stored.words()
-        refusal = stored.byte()
-        stored.same(told(lambda: graphs.graph_of(words) is None), f"refused-{refusal}" if refusal else "0", "refusal")
-        if refusal == 0:
-            texts_of_graph(stored, graphs.graph_of(words))
+    host = None
+    for kind, numbers, parts in stored.cases():
+        host = (one_table, one_graph, text_of_table, text_of_graph)[kind](stored, host, numbers, parts)
 
 
-def texts_of_graph(stored, graph):
-    for _ in range(stored.half()):
-        text = stored.bytes(stored.half())
-        stored.same(reading.read_graph(graph, text), stored_reading(stored), "reading of the graph")
-        offset, refusal = stored.word(), stored.byte()
-        stored.same(14 if offset > len(text) else 0, refusal, "refusal of the scan")
-        if refusal == 0:
-            stored.same(reading.scan(graph, text, offset), stored_pieces(stored, offset), "scan")
+def one_table(stored, host, numbers, parts):
+    clean, fill, *answer = numbers
+    words, graph_buffer, error_buffer = map(words_of, parts)
+    table = tables.Table(words)
+    graph = building.build(table)
+    stored.same([len(graph.rows), graph.root, len(graph.errors), len(graph.error_words())], answer, "answer")
+    graph_words = graph.words() + [0] * (258 * (words[0] - len(graph.rows)))
+    for buffer, given in ((graph_buffer, graph_words), (error_buffer, graph.error_words())):
+        stored.same(given + [fill] * (len(buffer) - len(given)), buffer, "buffer")
+    stored.same(reading.clean(table, graph.errors), clean == 1, "clean")
+    return table, graph
+
+
+def one_graph(stored, host, numbers, parts):
+    (refusal,), (words,) = numbers, map(words_of, parts)
+    stored.same(told(lambda: graphs.graph_of(words) is None), f"refused-{refusal}" if refusal else "0", "refusal")
+    return None if refusal else (None, graphs.graph_of(words))
+
+
+def text_of_table(stored, host, numbers, parts):
+    (table, graph), (text, entries) = host, parts
+    stored.same(reading.read_table(table, text), reading_of(numbers[0]), "reading of the table")
+    stored.same(reading.read_graph(graph, text), reading_of(numbers[1]), "reading of the graph")
+    stored.same(reading.scan(graph, text, 0), pieces_of(entries), "scan")
+    return host
+
+
+def text_of_graph(stored, host, numbers, parts):
+    (_, graph), (text, entries), (read, offset, refusal) = host, parts, numbers
+    stored.same(reading.read_graph(graph, text), reading_of(read), "reading of the graph")
+    stored.same(14 if offset > len(text) else 0, refusal, "refusal of the scan")
+    if refusal == 0:
+        stored.same(reading.scan(graph, text, offset), pieces_of(entries), "scan")
+    return host
 
 
 # ---- plans
 
 
 def plans(stored):
-    for _ in range(stored.word()):
-        words, fill = stored.words(), stored.byte()
-        held = [classing.class_of(stored.bytes(32)) for _ in range(stored.byte())]
-        count, buffer, refusal = stored.word(), stored.word(), stored.byte()
-        before = planning.tables_of(fill, held)
-        try:
-            (chosen, store), found = planning.planned(words, before, count, buffer), 0
-        except Refused as refused:
-            found = refused.args[0]
-        stored.same(found, refusal, "refusal")
-        if refusal == 0:
-            stored.same(chosen, stored.words(), "plan")
-            added = [classing.class_of(stored.bytes(32)) for _ in range(stored.byte())]
-            stored.same(store[count:], added, "classes added")
-            after = planning.tables_of(fill, store)
-            for _ in range(stored.half()):
-                one_run(stored, words, chosen, [(before, count), (after, len(store))])
+    host = None
+    for kind, numbers, parts in stored.cases():
+        if kind < 4:
+            host = one_plan(stored, kind, numbers, parts)
+        else:
+            one_run(stored, kind, host, numbers, parts)
 
 
-def one_run(stored, words, chosen, stores):
-    tables, count = stores[stored.byte()]
-    given, at, value = chosen[: stored.half()], stored.half(), stored.half()
+def one_plan(stored, kind, numbers, parts):
+    (fill, byte, count, count_after), (graph, masks, masks_after, buffer) = numbers, parts
+    words, buffer = words_of(graph), words_of(buffer)
+    before, after = (planning.tables_of(byte, classes_of(part)) for part in (masks, masks_after))
+    chosen, store, found = [], None, 0
+    try:
+        chosen, store = planning.planned(words, before, count, len(buffer))
+    except Refused as refused:
+        found = refused.args[0]
+    stored.same(found, (0, 12, 14, 15)[kind], "refusal")
+    stored.same(chosen + [fill] * (len(buffer) - len(chosen)), buffer, "plan buffer")
+    if store is None:
+        stored.same((before, count), (after, count_after), "store")
+    else:
+        behind = classes_of(masks)[len(store) :]
+        stored.same((planning.tables_of(byte, store + behind), len(store)), (after, count_after), "store")
+    return words, chosen, [(before, count), (after, count_after)]
+
+
+def one_run(stored, kind, host, numbers, parts):
+    (words, chosen, stores), (grown, length, at, value, refusal, read), (text,) = host, numbers, parts
+    given = chosen[:length]
     if at != 65535:
         given[at] = value
-    text = stored.bytes(stored.half())
     try:
-        refusal, found = 0, planning.run(words, tables, count, given, text)
+        found = 0, planning.run(words, *stores[grown], given, text)
     except Refused as refused:
-        refusal, found = refused.args[0], None
-    stored.same((refusal, found), (stored.byte(), stored_reading(stored)), "run")
+        found = refused.args[0], None
+    stored.same(found, (refusal, reading_of(read)), "run")
+    stored.same(5 if refusal else 4, kind, "kind")
 
 
 REPLAYS = {

@@ -171,7 +171,15 @@ fn image_alike(case: &[u8], table: &[u16], graph_after: &[u16], errors_after: &[
             front(&errors, errors_after.len()),
         )
     } else {
-        call_alike(case, true, kind(case), table, image, graph_after, errors_after)
+        call_alike(
+            case,
+            true,
+            kind(case),
+            table,
+            image,
+            graph_after,
+            errors_after,
+        )
     }
 }
 
@@ -190,6 +198,14 @@ pub(crate) fn alike(case: &[u8]) -> bool {
         && n <= table.len()
         && g <= graph.len()
         && e <= errors.len()
-        && call_alike(case, false, number(case, 1), given, part(case, 1), graph_after, errors_after)
+        && call_alike(
+            case,
+            false,
+            number(case, 1),
+            given,
+            part(case, 1),
+            graph_after,
+            errors_after,
+        )
         && image_alike(case, given, graph_after, errors_after)
 }
