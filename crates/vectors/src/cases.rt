@@ -188,7 +188,17 @@ pub fn tell(name: &[u8], w: Walk, kind: usize)
     io::write_all(1, b" differ\n");
 }
 
-// Prints which case was the first that differs, if one does, and whether the list was read whole.
+// A sum of all bytes of a list, by which a change of any one of them is seen.
+fn checksum(list: &[u8]) -> usize {
+    let n = list.len();
+    let mut sum: usize = 0;
+    for k in 0..n {
+        sum = (257 * sum + crate::count(list, k)) % 4294967291;
+    }
+    sum
+}
+
+// Prints which case was the first that differs, if one does, whether the list was read whole, and its checksum.
 pub fn tell_end(list: &[u8], w: Walk) {
     if w.first < w.cases {
         io::write_all(1, b"first that differs: case ");
@@ -196,8 +206,10 @@ pub fn tell_end(list: &[u8], w: Walk) {
         io::write_all(1, b"\n");
     }
     if w.at == list.len() {
-        io::write_all(1, b"list read whole\n");
+        io::write_all(1, b"list read whole, checksum ");
     } else {
-        io::write_all(1, b"list ends early\n");
+        io::write_all(1, b"list ends early, checksum ");
     }
+    print_number(checksum(list));
+    io::write_all(1, b"\n");
 }

@@ -12,8 +12,6 @@ ghost use Rattle.vectors.specs.Reading.{byteAt, halfAt, wordAt, bitAt, f
 pub mod cases;
 pub mod masks;
 pub mod parts;
-pub mod runs;
-pub mod tally;
 pub mod words;
 
 // Room for a list. Large buffers are made by calls: to lend an array that it makes itself, a function has to prove its length, which is found by

@@ -3,10 +3,22 @@
 // Words in runs stand in a list as bytes, four for each run: half, how often; half, which word. The definitions are in specs/Runs.antt.
 ghost use mathlib.Core.Path.{_≡_};
 ghost use mathlib.Core.Bool.{true};
-ghost use Prim.Native.Nat.{min, _+_};
-ghost use lib.ListN.{length};
+ghost use Prim.Native.Nat.{min, _+_, _-_, _≤_};
+ghost use lib.ListN.{length, replicate};
 ghost use lib.Seq.{sets};
 ghost use Rattle.vectors.specs.Runs.{wordsOf};
+
+// The words from i up to j get that value.
+fn fill(words: &mut [u16], i: usize, j: usize, value: u16)
+    requires { ⌜ j ≤ length (now words) ⌝ }
+    ensures { λ _. ⌜ now (words .exit) ≡ sets (now (words .entry)) i (replicate (j - i) value) ⌝ }
+{
+    let mut k = i;
+    while k < j {
+        words[k] = value;
+        k += 1;
+    }
+}
 
 // The words of runs, written into the front of a lent buffer, as far as there is room: how many they are; one more than the buffer has, where they
 // are more.
@@ -22,10 +34,10 @@ pub fn unpack(runs: &[u8], out: &mut [u16]) -> usize
         let to = from + crate::half(runs, place);
         let value = crate::half(runs, place + 2) as u16;
         if n < to {
-            crate::parts::fill(out, from, n, value);
+            fill(out, from, n, value);
             return n + 1;
         }
-        crate::parts::fill(out, from, to, value);
+        fill(out, from, to, value);
         from = to;
         place += 4;
     }
@@ -57,15 +69,15 @@ pub fn same(a: &[u16], b: &[u16]) -> bool
 }
 
 // The same of entries of a scan.
-pub fn same_entries(a: &[usize], b: &[usize]) -> bool
-    ensures { λ r. ⌜ (r ≡ true → now (a .entry) ≡ now (b .entry)) × (now (a .entry) ≡ now (b .entry) → r ≡ true) ⌝ }
+pub fn same_entries(one: &[usize], other: &[usize]) -> bool
+    ensures { λ r. ⌜ (r ≡ true → now (one .entry) ≡ now (other .entry)) × (now (one .entry) ≡ now (other .entry) → r ≡ true) ⌝ }
 {
-    let n = a.len();
-    if b.len() != n {
+    let n = one.len();
+    if other.len() != n {
         return false;
     }
     for k in 0..n {
-        if a[k] != b[k] {
+        if one[k] != other[k] {
             return false;
         }
     }

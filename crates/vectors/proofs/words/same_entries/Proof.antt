@@ -9,10 +9,10 @@ use Rattle.vectors.proofs.words.same_entries.Statement.{statement}
 use Rattle.vectors.proofs.words.same_entries.Tie as tie
 
 abbrev Inv-loop : tie.InvT-loop
-Inv-loop a b n k₀ k = (n ≡ length a) × (length b ≡ length a) × EqualBelow a b k
+Inv-loop one other n k₀ k = (n ≡ length one) × (length other ≡ length one) × EqualBelow one other k
 
 abbrev μ-loop : tie.MeasureT-loop
-μ-loop a b n k₀ k = n - k
+μ-loop one other n k₀ k = n - k
 
 returns : tie.Need-returns Inv-loop μ-loop
 returns c = tells-longer _ _ (c .if1 .taken)
@@ -45,7 +45,7 @@ loop-again : tie.Need-loop-again Inv-loop μ-loop
 loop-again c =
     let at = c .before .before .before .before in
     let args = at .before .before .args in
-    (at .loop .inv .0, at .loop .inv .1, equal-more (args .a .now) (args .b .now) (at .loop .k) (at .loop .inv .2) (c .if2 .left))
+    (at .loop .inv .0, at .loop .inv .1, equal-more (args .one .now) (args .other .now) (at .loop .k) (at .loop .inv .2) (c .if2 .left))
 
 returns-3 : tie.Need-returns-3 Inv-loop μ-loop
 returns-3 c = let l = c .before .loop in tells-equal _ _ (l .k) (l .inv .1) (omega arith) (l .inv .2)

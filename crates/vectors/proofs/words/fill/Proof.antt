@@ -6,8 +6,8 @@ use native.Mathlib.Omega.{arith}
 use lib.ListN.{length, set, replicate, length-set}
 use lib.Seq.{sets}
 use Rattle.lists.proofs.Runs.{sets-fill}
-use Rattle.vectors.proofs.parts.fill.Statement.{statement}
-use Rattle.vectors.proofs.parts.fill.Tie as tie
+use Rattle.vectors.proofs.words.fill.Statement.{statement}
+use Rattle.vectors.proofs.words.fill.Tie as tie
 
 abbrev Inv-loop : tie.InvT-loop
 Inv-loop words₀ i j value k₀ words k =
