@@ -1,5 +1,5 @@
 #!/usr/bin/env python3
-"""Reads the stored lists as docs/ORACLE.md lays them out and holds every value against document 01's rules as oracle/paper reads them.
+"""Reads the stored lists as docs/ORACLE.md lays them out and holds every value against the rules as oracle/paper has them.
 
     replay.py [NAME ..]
 """

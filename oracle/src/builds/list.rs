@@ -8,7 +8,7 @@ use crate::tables::cases::{delayed, dense, layered, many_rounds, random_table, w
 use crate::tables::{Leaf, State, Table};
 use crate::words::{packed_runs, runs};
 
-/// Document 01's K1, with so many leaves of one priority on its last state.
+/// K1, with so many leaves of one priority on its last state.
 pub fn k1(leaves: usize) -> Table {
     let mut table = Table { start: 1, leaves: Vec::new(), states: vec![State::dead(); 4], records: Vec::new() };
     table.leaves.resize(leaves, Leaf { priority: 2, empty: false });
@@ -18,7 +18,7 @@ pub fn k1(leaves: usize) -> Table {
     table
 }
 
-/// Document 01's K14: two states with one tie.
+/// K14: two states with one tie.
 pub fn k14() -> Table {
     let mut table = k1(2);
     table.states.push(table.states[3].clone());

@@ -14,7 +14,7 @@ fn listed_classes() -> Vec<Flags> {
     classes.extend((0..256).map(|last| of_range(0, last)));
     classes.extend((0..256).map(|first| of_range(first, 255)));
     classes.extend((0..256).map(|out| std::array::from_fn(|byte| byte != out)));
-    // document 01's K5: 5 to 10 and 12 to 16
+    // K5: 5 to 10 and 12 to 16
     classes.push(std::array::from_fn(|byte| (5..=10).contains(&byte) || (12..=16).contains(&byte)));
     // every pattern of up to six bytes, repeated over all 256
     for width in 2..=6 {

@@ -133,7 +133,7 @@ fn limits() -> Vec<Node> {
         Node::repetition(u32::MAX, 0, class()),
         // beyond 64 bits
         Node::repetition(u32::MAX, 0, Node::repetition(u32::MAX, 0, Node::repetition(u32::MAX, 0, class()))),
-        // document 01's K11 and K12
+        // K11 and K12
         Node::repetition(3, 0, class()),
         Node::repetition(0, 0, class()),
     ];
