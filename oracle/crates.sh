@@ -1,7 +1,7 @@
 # Compiles the original Rust of logos-codegen over stand-ins to libraries below $OUT, with the flags $FLAGS; sourced from the root of the repository.
-# LOGOS_SRC names the folder src/ of the crate logos-codegen 0.16.1, as crates.io publishes it; it is linked to, never copied.
+# LOGOS_SRC names the folder src/ of the crate logos-codegen 0.16.1, as it is published; it is linked to, never copied.
 if [ ! -f "${LOGOS_SRC:-}/graph/mod.rs" ]; then
-    echo "LOGOS_SRC must name the folder src/ of logos-codegen 0.16.1, the original in Rust (https://crates.io/crates/logos-codegen/0.16.1)" >&2
+    echo "LOGOS_SRC must name the folder src/ of logos-codegen 0.16.1, the original in Rust" >&2
     exit 1
 fi
 LOGOS_SRC=$(realpath "$LOGOS_SRC")

@@ -1,5 +1,5 @@
 #!/usr/bin/env python3
-"""Reads the stored lists as docs/ORACLE.md lays them out and holds every value against document 01's rules as oracle/paper reads them.
+"""Reads the stored lists as docs/ORACLE.md lays them out and holds every value against the rules as oracle/paper has them.
 
     replay.py [NAME ..]
 """
@@ -46,46 +46,76 @@ class Stored:
     def byte(self):
         return self.number(1)
 
-    def half(self):
-        return self.number(2)
-
     def word(self):
         return self.number(4)
 
-    def words(self):
-        """Words in runs."""
-        length, words = self.word(), []
-        for _ in range(self.word()):
-            times, value = self.half(), self.half()
-            words += [value] * times
-        assert len(words) == length, "runs that do not come out even"
-        return words
+    def cases(self):
+        """The cases that are left: the kind of each, its numbers, and its parts."""
+        while self.at < len(self.all):
+            end = self.word() + self.at
+            kind, numbers, parts = self.byte(), self.byte(), self.byte()
+            numbers = [self.word() for _ in range(numbers)]
+            ends = [0] + [self.word() for _ in range(parts)]
+            parts = [self.bytes(to - start) for start, to in zip(ends, ends[1:])]
+            assert self.at == end, "a case that does not come out even"
+            yield kind, numbers, parts
 
     def same(self, found, expected, what):
         assert found == expected, f"{what}, before byte {self.at}: stored {expected}, by the rules {found}"
         self.checked += 1
 
 
+def words_of(part):
+    """The words of runs."""
+    words = []
+    for at in range(0, len(part), 4):
+        words += [int.from_bytes(part[at + 2 : at + 4], "little")] * int.from_bytes(part[at : at + 2], "little")
+    assert len(part) % 4 == 0, "bytes that are no runs"
+    return words
+
+
 # ---- classes
 
 
-def one_class(stored):
-    held = classing.class_of(stored.bytes(32))
-    ranges = [(stored.byte(), stored.byte()) for _ in range(stored.byte())]
-    stored.same(classing.ranges(held), ranges, "ranges")
-    comparisons = []
-    for _ in range(stored.byte()):
-        first, last, ops, exceptions = stored.byte(), stored.byte(), stored.byte(), stored.byte()
-        comparisons.append((first, last, list(stored.bytes(exceptions))))
-        stored.same(classing.count_ops(comparisons[-1]), ops, "count_ops")
+def classes(stored):
+    for kind, numbers, parts in stored.cases():
+        (one_class, one_count, one_store)[kind](stored, numbers, parts)
+
+
+def classes_of(part):
+    return [classing.class_of(part[at : at + 32]) for at in range(0, len(part), 32)]
+
+
+def one_class(stored, numbers, parts):
+    held = classing.class_of(parts[0])
+    stored.same(classing.ranges(held), list(zip(parts[1], parts[2], strict=True)), "ranges")
+    comparisons, at = [], 0
+    for first, last, exceptions in zip(*parts[3:6], strict=True):
+        comparisons.append((first, last, list(parts[6][at : at + exceptions])))
+        at += exceptions
+    assert at == len(parts[6]), "exceptions of no comparison"
     stored.same(classing.comparisons(held), comparisons, "comparisons")
-    stored.same(classing.cost(held), stored.half(), "cost")
-    return held
+    stored.same(classing.cost(held), *numbers, "cost")
 
 
-def rendered(stored, store):
-    luts = b"".join(stored.bytes(256) for _ in range(stored.byte()))
-    stored.same(classing.luts(store), luts.ljust(2048, b"\0"), "tables")
+def one_count(stored, numbers, parts):
+    first, last, exceptions, ops = numbers
+    stored.same(classing.count_ops((first, last, [first] * exceptions)), ops, "count_ops")
+
+
+def one_store(stored, numbers, parts):
+    (fill, count, held, refusal), (before, added, masks, after, luts) = numbers, parts
+    tables = planning.tables_of(fill, classes_of(before))
+    store = classing.store_of(tables, count)
+    for flags, number in zip(classes_of(added), masks, strict=True):
+        stored.same(mask(store, flags), number, "mask number")
+    stored.same(count if store is None else len(store), held, "held")
+    stored.same(15 if store is None else 0, refusal, "refusal")
+    if store is None:
+        stored.same(before, after, "tables")
+        return
+    stored.same(planning.tables_of(fill, store + classes_of(before)[len(store) :]), planning.tables_of(fill, classes_of(after)), "tables")
+    stored.same(classing.luts(store), luts.ljust(2048, b"\0"), "rendered tables")
 
 
 def mask(store, added):
@@ -93,178 +123,163 @@ def mask(store, added):
     return 255 if number is None else number
 
 
-def classes(stored):
-    held = [one_class(stored) for _ in range(stored.word())]
-    for _ in range(stored.half()):
-        stored.byte()
-        store = []
-        for _ in range(stored.half()):
-            stored.same(mask(store, held[stored.half()]), stored.byte(), "mask number")
-        stored.same(len(store), stored.byte(), "held")
-        rendered(stored, store)
-    for _ in range(stored.half()):
-        count, tables = stored.word(), stored.bytes(2048)
-        store = classing.store_of(tables, count)
-        for _ in range(stored.half()):
-            stored.same(mask(store, classing.class_of(stored.bytes(32))), stored.byte(), "mask number")
-        stored.same(count if store is None else len(store), stored.word(), "held")
-        refusal = stored.byte()
-        stored.same(15 if store is None else 0, refusal, "refusal")
-        if refusal == 0:
-            rendered(stored, store)
-
-
 # ---- priorities
 
 
-def half_priority(text):
+def priority(text):
     points = trees.code_points(text)
-    return len(text) if points is None else points
+    return 2 * (len(text) if points is None else points)
 
 
 def priorities(stored):
-    pairs, edges = stored.bytes(16384), (0x7F, 0x80, 0xBF, 0xC0)
-    for x in range(256):
-        for y in range(256):
-            code = pairs[(256 * x + y) // 4] >> 2 * (y % 4) & 3
-            points = trees.code_points(bytes((x, y)))
-            stored.same(2 if points is None else points - 1, code, "two bytes")
-    threes = [(x, y, z) for x in range(0xE0, 0xF0) for y in range(256) for z in edges]
-    fours = [(w, x, y, z) for w in range(0xF0, 0xF8) for x in range(256) for y in edges for z in edges]
-    for strings in (threes, fours):
-        bits = stored.bytes(len(strings) // 8)
-        for i, string in enumerate(strings):
-            stored.same(trees.code_points(bytes(string)) == 1, bits[i // 8] >> i % 8 & 1 == 1, "one code point")
-    for _ in range(stored.word()):
-        text = stored.bytes(stored.byte())
-        stored.same(half_priority(text), stored.byte(), "literal")
-    for _ in range(stored.word()):
-        tree(stored)
+    for kind, numbers, parts in stored.cases():
+        (literals, one_string, tree)[kind](stored, numbers, parts)
 
 
-def tree(stored):
-    length, words = stored.half(), []
-    while len(words) < length:
-        given = stored.byte()
-        words += [stored.word() if given >> j & 1 else 0 for j in range(min(6, length - len(words)))]
-    text = stored.bytes(stored.half())
-    refusal, value = stored.byte(), stored.word()
-    found = told(lambda: trees.values(trees.tree_of(words, text), text)[length // 6])
+def literals(stored, numbers, parts):
+    (place,), (string, priorities) = numbers, parts
+    strings = [string[:place] + bytes((byte,)) + string[place + 1 :] for byte in range(256)]
+    stored.same([priority(string) for string in strings], words_of(priorities), "literals")
+
+
+def one_string(stored, numbers, parts):
+    stored.same(priority(*parts), *numbers, "literal")
+
+
+def tree(stored, numbers, parts):
+    (refusal, value, greedy_refusal, greedy), (packed, text) = numbers, parts
+    words = [int.from_bytes(packed[at : at + 4], "little") for at in range(0, len(packed), 4)]
+    found = told(lambda: trees.values(trees.tree_of(words, text), text)[len(words) // 6])
     stored.same(found, f"refused-{refusal}" if refusal else str(value), "priority")
-    refusal, value = stored.byte(), stored.byte()
-    found = told(lambda: trees.greedy_all(trees.tree_of(words, text), length // 6))
-    stored.same(found, f"refused-{refusal}" if refusal else str(value), "greedy")
+    found = told(lambda: trees.greedy_all(trees.tree_of(words, text), len(words) // 6))
+    stored.same(found, f"refused-{greedy_refusal}" if greedy_refusal else str(greedy), "greedy")
 
 
 # ---- builds and texts
 
 
 def builds(stored):
-    for _ in range(stored.word()):
-        words, odd, _ = stored.words(), stored.byte(), stored.byte()
-        graph_buffer, error_buffer, refusal, image = stored.word(), stored.word(), stored.byte(), stored.byte()
-        graph = None
+    for kind, (fill, refusal, *answer), (table, odd, graph_buffer, error_buffer) in stored.cases():
+        words, graph_buffer, error_buffer = words_of(table), words_of(graph_buffer), words_of(error_buffer)
+        graph_words, error_words = [], []
         try:
-            graph, found = building.build_within(words, graph_buffer, error_buffer), 0
+            graph, found = building.build_within(words, len(graph_buffer), len(error_buffer)), 0
+            graph_words, error_words = graph.words(), graph.error_words()
+            graph_words += [0] * (2 + 258 * words[0] - len(graph_words))
+            stored.same([len(graph.rows), graph.root, len(graph.errors), len(error_words)], answer, "answer")
         except Refused as refused:
             found = refused.args[0]
         stored.same(found, refusal, "refusal")
-        stored.same(13 if odd or 2 * len(words) > 65536 else found, image, "refusal of the image")
-        if refusal == 0:
-            stored.same((len(graph.rows), graph.root, len(graph.errors)), (stored.half(), stored.half(), stored.half()), "answer")
-            stored.same(graph.error_words(), stored.words(), "error words")
-            stored.same(graph.words(), stored.words(), "graph words")
+        stored.same(10 if odd or 2 * len(words) > 65536 else found, kind, "refusal of the image")
+        for buffer, given in ((graph_buffer, graph_words), (error_buffer, error_words)):
+            stored.same(given + [fill] * (len(buffer) - len(given)), buffer, "buffer")
 
 
 def display(stored):
-    for text in (texts.display_text, texts.error_text):
-        for _ in range(stored.word()):
-            found = text(stored.words())
-            refusal = stored.byte()
-            expected = f"refused-{refusal}" if refusal else stored.bytes(stored.word()).decode("ascii")
-            stored.same(found, expected, "text")
+    for kind, (refusal,), (words, text) in stored.cases():
+        found = (texts.display_text, texts.error_text)[kind](words_of(words))
+        stored.same(found, f"refused-{refusal}" if refusal else text.decode("ascii"), "text")
 
 
 # ---- readings
 
 
-def stored_reading(stored):
-    leaf, end = stored.half(), stored.half()
-    return None if leaf == 65535 else (leaf, end)
+def reading_of(number):
+    leaf, end = number % 65536, number // 65536
+    return None if (leaf, end) == (65535, 0) else (leaf, end)
 
 
-def stored_pieces(stored, offset):
-    pieces = []
-    for _ in range(stored.half()):
-        leaf, length = stored.byte(), stored.half()
-        pieces.append((None if leaf == 255 else leaf, offset, offset + length))
-        offset += length
-    return pieces
+def pieces_of(part):
+    """Pieces of a scan: leaf, start and end; the part has start, end and leaf of each."""
+    words = [int.from_bytes(part[at : at + 4], "little") for at in range(0, len(part), 4)]
+    entries = zip(words[0::3], words[1::3], words[2::3], strict=True)
+    return [(None if leaf == 65535 else leaf, start, end) for start, end, leaf in entries]
 
 
 def readings(stored):
-    for _ in range(stored.word()):
-        table, words = tables.Table(stored.words()), stored.words()
-        graph = building.build(table)
-        stored.same(graph.words(), words, "graph words")
-        stored.same(reading.clean(table, graph.errors), stored.byte() == 1, "clean")
-        for _ in range(stored.half()):
-            text = stored.bytes(stored.half())
-            stored.same(reading.read_table(table, text), stored_reading(stored), "reading of the table")
-            stored.same(reading.read_graph(graph, text), stored_reading(stored), "reading of the graph")
-            stored.same(reading.scan(graph, text, 0), stored_pieces(stored, 0), "scan")
-    for _ in range(stored.word()):
-        words = stored.words()
-        refusal = stored.byte()
-        stored.same(told(lambda: graphs.graph_of(words) is None), f"refused-{refusal}" if refusal else "0", "refusal")
-        if refusal == 0:
-            texts_of_graph(stored, graphs.graph_of(words))
+    host = None
+    for kind, numbers, parts in stored.cases():
+        host = (one_table, one_graph, text_of_table, text_of_graph)[kind](stored, host, numbers, parts)
 
 
-def texts_of_graph(stored, graph):
-    for _ in range(stored.half()):
-        text = stored.bytes(stored.half())
-        stored.same(reading.read_graph(graph, text), stored_reading(stored), "reading of the graph")
-        offset, refusal = stored.word(), stored.byte()
-        stored.same(14 if offset > len(text) else 0, refusal, "refusal of the scan")
-        if refusal == 0:
-            stored.same(reading.scan(graph, text, offset), stored_pieces(stored, offset), "scan")
+def one_table(stored, host, numbers, parts):
+    clean, fill, *answer = numbers
+    words, graph_buffer, error_buffer = map(words_of, parts)
+    table = tables.Table(words)
+    graph = building.build(table)
+    stored.same([len(graph.rows), graph.root, len(graph.errors), len(graph.error_words())], answer, "answer")
+    graph_words = graph.words() + [0] * (258 * (words[0] - len(graph.rows)))
+    for buffer, given in ((graph_buffer, graph_words), (error_buffer, graph.error_words())):
+        stored.same(given + [fill] * (len(buffer) - len(given)), buffer, "buffer")
+    stored.same(reading.clean(table, graph.errors), clean == 1, "clean")
+    return table, graph
+
+
+def one_graph(stored, host, numbers, parts):
+    (refusal,), (words,) = numbers, map(words_of, parts)
+    stored.same(told(lambda: graphs.graph_of(words) is None), f"refused-{refusal}" if refusal else "0", "refusal")
+    return None if refusal else (None, graphs.graph_of(words))
+
+
+def text_of_table(stored, host, numbers, parts):
+    (table, graph), (text, entries) = host, parts
+    stored.same(reading.read_table(table, text), reading_of(numbers[0]), "reading of the table")
+    stored.same(reading.read_graph(graph, text), reading_of(numbers[1]), "reading of the graph")
+    stored.same(reading.scan(graph, text, 0), pieces_of(entries), "scan")
+    return host
+
+
+def text_of_graph(stored, host, numbers, parts):
+    (_, graph), (text, entries), (read, offset, refusal) = host, parts, numbers
+    stored.same(reading.read_graph(graph, text), reading_of(read), "reading of the graph")
+    stored.same(14 if offset > len(text) else 0, refusal, "refusal of the scan")
+    if refusal == 0:
+        stored.same(reading.scan(graph, text, offset), pieces_of(entries), "scan")
+    return host
 
 
 # ---- plans
 
 
 def plans(stored):
-    for _ in range(stored.word()):
-        words, fill = stored.words(), stored.byte()
-        held = [classing.class_of(stored.bytes(32)) for _ in range(stored.byte())]
-        count, buffer, refusal = stored.word(), stored.word(), stored.byte()
-        before = planning.tables_of(fill, held)
-        try:
-            (chosen, store), found = planning.planned(words, before, count, buffer), 0
-        except Refused as refused:
-            found = refused.args[0]
-        stored.same(found, refusal, "refusal")
-        if refusal == 0:
-            stored.same(chosen, stored.words(), "plan")
-            added = [classing.class_of(stored.bytes(32)) for _ in range(stored.byte())]
-            stored.same(store[count:], added, "classes added")
-            after = planning.tables_of(fill, store)
-            for _ in range(stored.half()):
-                one_run(stored, words, chosen, [(before, count), (after, len(store))])
+    host = None
+    for kind, numbers, parts in stored.cases():
+        if kind < 4:
+            host = one_plan(stored, kind, numbers, parts)
+        else:
+            one_run(stored, kind, host, numbers, parts)
 
 
-def one_run(stored, words, chosen, stores):
-    tables, count = stores[stored.byte()]
-    given, at, value = chosen[: stored.half()], stored.half(), stored.half()
+def one_plan(stored, kind, numbers, parts):
+    (fill, byte, count, count_after), (graph, masks, masks_after, buffer) = numbers, parts
+    words, buffer = words_of(graph), words_of(buffer)
+    before, after = (planning.tables_of(byte, classes_of(part)) for part in (masks, masks_after))
+    chosen, store, found = [], None, 0
+    try:
+        chosen, store = planning.planned(words, before, count, len(buffer))
+    except Refused as refused:
+        found = refused.args[0]
+    stored.same(found, (0, 12, 14, 15)[kind], "refusal")
+    stored.same(chosen + [fill] * (len(buffer) - len(chosen)), buffer, "plan buffer")
+    if store is None:
+        stored.same((before, count), (after, count_after), "store")
+    else:
+        behind = classes_of(masks)[len(store) :]
+        stored.same((planning.tables_of(byte, store + behind), len(store)), (after, count_after), "store")
+    return words, chosen, [(before, count), (after, count_after)]
+
+
+def one_run(stored, kind, host, numbers, parts):
+    (words, chosen, stores), (grown, length, at, value, refusal, read), (text,) = host, numbers, parts
+    given = chosen[:length]
     if at != 65535:
         given[at] = value
-    text = stored.bytes(stored.half())
     try:
-        refusal, found = 0, planning.run(words, tables, count, given, text)
+        found = 0, planning.run(words, *stores[grown], given, text)
     except Refused as refused:
-        refusal, found = refused.args[0], None
-    stored.same((refusal, found), (stored.byte(), stored_reading(stored)), "run")
+        found = refused.args[0], None
+    stored.same(found, (refusal, reading_of(read)), "run")
+    stored.same(5 if refusal else 4, kind, "kind")
 
 
 REPLAYS = {

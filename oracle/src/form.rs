@@ -20,6 +20,27 @@ impl Stored {
     pub fn bytes(&mut self, bytes: &[u8]) {
         self.0.extend(bytes);
     }
+
+    /// A case: its kind, numbers of up to 32 bits, and parts. Its length stands before it.
+    pub fn case(&mut self, kind: usize, numbers: &[usize], parts: &[&[u8]]) {
+        let mut case = Stored::default();
+        for head in [kind, numbers.len(), parts.len()] {
+            case.byte(head);
+        }
+        for &number in numbers {
+            case.word(number);
+        }
+        let mut end = 0;
+        for part in parts {
+            end += part.len();
+            case.word(end);
+        }
+        for part in parts {
+            case.bytes(part);
+        }
+        self.word(case.0.len());
+        self.bytes(&case.0);
+    }
 }
 
 /// Bytes as hexadecimal digits; no bytes as `-`.

@@ -11,7 +11,7 @@ mod cases;
 mod list;
 
 pub use cases::{random_case, text_for_graph};
-pub use list::list;
+pub use list::{list, reading_number};
 
 pub enum Case {
     /// A table, and a text that it and its graph read.

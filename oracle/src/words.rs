@@ -3,17 +3,14 @@
 use crate::form::{number, Stored};
 use std::fmt::Display;
 
-impl Stored {
-    /// The number of words, the number of runs, and the runs: how often, which word.
-    pub fn runs(&mut self, words: &[u16]) {
-        let runs = runs(words);
-        self.word(words.len());
-        self.word(runs.len());
-        for (times, value) in runs {
-            self.half(times);
-            self.half(usize::from(value));
-        }
+/// Words in runs, as a part of a case: for each run how often, which word.
+pub fn packed_runs(words: &[u16]) -> Vec<u8> {
+    let mut stored = Stored::default();
+    for (times, value) in runs(words) {
+        stored.half(times);
+        stored.half(usize::from(value));
     }
+    stored.0
 }
 
 /// Equal neighbours as one, up to 65,535 of them.

@@ -3,20 +3,34 @@
 mod byte_class;
 mod masks;
 
+use vectors::cases::Walk;
+
 fn main() {
     let mut space = vectors::space();
     let n = io::read_full(0, &mut space);
-    let mut places = [0usize; 4096];
-    replay(&space[..n], &mut places);
+    let list = &space[..n];
+    let w = replay(list);
+    vectors::cases::tell(b"classes", w, 0);
+    vectors::cases::tell(b"count_ops", w, 1);
+    vectors::cases::tell(b"stores", w, 2);
+    vectors::cases::tell_end(list, w);
 }
 
-// All of a list. `places` takes the place of each class, by which the sequences name it.
-fn replay(list: &[u8], places: &mut [usize]) {
-    let classes = byte_class::all(list, 0, places);
-    vectors::tally::tell(b"classes", classes);
-    let sequences = masks::all_sequences(list, classes.at, places);
-    vectors::tally::tell(b"sequences", sequences);
-    let stores = masks::all_stores(list, sequences.at);
-    vectors::tally::tell(b"stores", stores);
-    vectors::tally::tell_end(list, stores.at);
+fn replay(list: &[u8]) -> Walk {
+    let mut w = vectors::cases::begun(3);
+    while w.at < list.len() {
+        let same = alike(vectors::cases::next(list, w), w.cases);
+        w = vectors::cases::noted(list, w, same);
+    }
+    w
+}
+
+// The case with number i. Every second store is lent.
+fn alike(case: &[u8], i: usize) -> bool {
+    match vectors::cases::kind(case) {
+        0 => byte_class::alike(case),
+        1 => byte_class::ops_alike(case),
+        2 => masks::alike(case, i % 2 == 1),
+        _ => false,
+    }
 }

@@ -2,65 +2,40 @@
 // words, and must leave the same.
 use mask_store::MaskStore;
 use plans::list::ListAnswer;
-use plans::list::Listed;
 use plans::scan::Place;
 use plans::scan::Scan;
+use vectors::words::same_entries;
 
 // What a buffer is filled with before a call: no entry has such a number.
 const FOUND: usize = 12297829382473034410;
 
-fn fill(out: &mut [usize]) {
-    let n = out.len();
-    for k in 0..n {
-        out[k] = FOUND;
-    }
+// Where a scan stands that has ended.
+const ENDED: usize = 18446744073709551615;
+
+// What is added to the number of a refusal: no list has so many entries.
+const REFUSED: usize = 4294967296;
+
+fn small_room() -> [usize; 16] {
+    [FOUND; 16]
 }
 
-fn same_words(one: &[usize], other: &[usize]) -> bool {
-    let n = one.len();
-    if other.len() != n {
-        return false;
-    }
-    for k in 0..n {
-        if one[k] != other[k] {
-            return false;
-        }
-    }
-    true
+fn large_room() -> [usize; 1024] {
+    [FOUND; 1024]
 }
 
-// ---- scans
-
-fn has_ended(scan: Scan) -> bool {
+// Where a scan stands.
+fn place(scan: Scan) -> usize {
     let place = scan.place;
     match place {
-        Place::Reading(_) => false,
-        Place::Ended => true,
+        Place::Reading(at) => at,
+        Place::Ended => ENDED,
     }
 }
 
-fn reads_at(scan: Scan, offset: usize) -> bool {
-    let place = scan.place;
-    match place {
-        Place::Reading(at) => at == offset,
-        Place::Ended => false,
-    }
-}
-
-fn same_scan(one: Scan, other: Scan) -> bool {
-    let place = one.place;
-    match place {
-        Place::Reading(at) => reads_at(other, at),
-        Place::Ended => has_ended(other),
-    }
-}
-
-// ---- answers
-
-fn listed(answer: ListAnswer, n: usize) -> bool {
+fn answer_number(answer: ListAnswer) -> usize {
     match answer {
-        ListAnswer::Listed(k) => k == n,
-        ListAnswer::Refused(_) => false,
+        ListAnswer::Listed(n) => n,
+        ListAnswer::Refused(r) => REFUSED + r as usize,
     }
 }
 
@@ -71,14 +46,7 @@ fn refused(answer: ListAnswer, refusal: usize) -> bool {
     }
 }
 
-fn same_answer(one: ListAnswer, other: ListAnswer) -> bool {
-    match one {
-        ListAnswer::Listed(n) => listed(other, n),
-        ListAnswer::Refused(r) => refused(other, r as usize),
-    }
-}
-
-// Whether a call by the plan is refused by that number, and the scan and the buffer are as they were: as one that no call has seen.
+// Whether a call by the plan is refused by that number, and the scan and the buffer are as they were.
 fn refuses(
     scan: Scan,
     graph: &[u16],
@@ -86,14 +54,18 @@ fn refuses(
     store: MaskStore,
     text: &[u8],
     refusal: usize,
-    unseen: &mut [usize],
-    out: &mut [usize],
 ) -> bool {
-    fill(unseen);
-    fill(out);
-    let l = plans::planned::scan_planned(scan, graph, plan, store, text, out);
+    let unseen = small_room();
+    let mut out = small_room();
+    let l = plans::planned::scan_planned(scan, graph, plan, store, text, &mut out);
     let answer = l.answer;
-    refused(answer, refusal) && same_scan(l.scan, scan) && same_words(unseen, out)
+    refused(answer, refusal) && place(l.scan) == place(scan) && same_entries(&out, &unseen)
+}
+
+fn past(text: &[u8]) -> Scan {
+    Scan {
+        place: Place::Reading(text.len() + 1),
+    }
 }
 
 // A refusal of the run is one of every scan, and goes before 16; a scan past the text gets 14, unless 12 goes before it.
@@ -103,20 +75,14 @@ pub(crate) fn all_refuse(
     store: MaskStore,
     text: &[u8],
     refusal: usize,
-    unseen: &mut [usize],
-    out: &mut [usize],
 ) -> bool {
-    let past = Scan {
-        place: Place::Reading(text.len() + 1),
-    };
     let over = Scan {
         place: Place::Ended,
     };
     let early = if refusal == 12 { 12 } else { 14 };
-    let fresh_refused = refuses(Scan::new(), graph, plan, store, text, refusal, unseen, out);
-    let past_refused = refuses(past, graph, plan, store, text, early, unseen, out);
-    let over_refused = refuses(over, graph, plan, store, text, refusal, unseen, out);
-    fresh_refused && past_refused && over_refused
+    refuses(Scan::new(), graph, plan, store, text, refusal)
+        && refuses(past(text), graph, plan, store, text, early)
+        && refuses(over, graph, plan, store, text, refusal)
 }
 
 // ---- a text that is listed
@@ -125,13 +91,6 @@ pub(crate) fn all_refuse(
 struct Spot {
     pub scan: Scan,
     pub same: bool,
-}
-
-// Whether a call of each answered and left the same.
-fn same_call(one: Listed, other: Listed, walked: &[usize], planned: &[usize]) -> bool {
-    let by_walk = one.answer;
-    let by_plan = other.answer;
-    same_answer(by_walk, by_plan) && same_scan(one.scan, other.scan) && same_words(walked, planned)
 }
 
 // A call of each from the same scan.
@@ -144,15 +103,46 @@ fn call(
     walked: &mut [usize],
     planned: &mut [usize],
 ) -> Spot {
-    let scan = spot.scan;
-    fill(walked);
-    fill(planned);
-    let w = plans::list::scan_list(scan, graph, text, walked);
-    let p = plans::planned::scan_planned(scan, graph, plan, store, text, planned);
+    let w = plans::list::scan_list(spot.scan, graph, text, walked);
+    let p = plans::planned::scan_planned(spot.scan, graph, plan, store, text, planned);
+    let by_walk = w.answer;
+    let by_plan = p.answer;
+    let next = p.scan;
     Spot {
-        scan: p.scan,
-        same: spot.same && same_call(w, p, walked, planned),
+        scan: next,
+        same: spot.same
+            && answer_number(by_walk) == answer_number(by_plan)
+            && place(w.scan) == place(next)
+            && same_entries(walked, planned),
     }
+}
+
+// The next call of each, into buffers of `size` words, if the scan has not ended.
+fn turn(
+    graph: &[u16],
+    plan: &[u16],
+    store: MaskStore,
+    text: &[u8],
+    spot: Spot,
+    size: usize,
+) -> Spot {
+    if place(spot.scan) == ENDED {
+        return spot;
+    }
+    let mut walked = large_room();
+    let mut planned = large_room();
+    if walked.len() < size {
+        return spot;
+    }
+    call(
+        graph,
+        plan,
+        store,
+        text,
+        spot,
+        &mut walked[0..size],
+        &mut planned[0..size],
+    )
 }
 
 fn first() -> Spot {
@@ -162,117 +152,29 @@ fn first() -> Spot {
     }
 }
 
-// The next call of each, if the scan has not ended.
-fn turn(
-    graph: &[u16],
-    plan: &[u16],
-    store: MaskStore,
-    text: &[u8],
-    spot: Spot,
-    walked: &mut [usize],
-    planned: &mut [usize],
-) -> Spot {
-    if has_ended(spot.scan) {
-        return spot;
-    }
-    call(graph, plan, store, text, spot, walked, planned)
-}
-
-// All of the text into one buffer, in as many calls as it takes: each passes a byte or ends. Then 16, and 14 past the text.
-fn into_buffers(
-    graph: &[u16],
-    plan: &[u16],
-    store: MaskStore,
-    text: &[u8],
-    walked: &mut [usize],
-    planned: &mut [usize],
-) -> bool {
+// All of the text into buffers, in as many calls as it takes: each passes a byte or ends. Then 16, and 14 past the text.
+fn into_buffers(graph: &[u16], plan: &[u16], store: MaskStore, text: &[u8], size: usize) -> bool {
     let most = text.len() + 1;
-    let past = Scan {
-        place: Place::Reading(most),
-    };
     let mut spot = first();
     for k in 0..most {
-        spot = turn(graph, plan, store, text, spot, walked, planned);
+        spot = turn(graph, plan, store, text, spot, size);
     }
-    let again = refuses(spot.scan, graph, plan, store, text, 16, walked, planned);
-    let past_refused = refuses(past, graph, plan, store, text, 14, walked, planned);
-    spot.same && has_ended(spot.scan) && again && past_refused
+    spot.same
+        && place(spot.scan) == ENDED
+        && refuses(spot.scan, graph, plan, store, text, 16)
+        && refuses(past(text), graph, plan, store, text, 14)
 }
 
-// The same, into the first `size` words of buffers.
-fn into_parts(
-    graph: &[u16],
-    plan: &[u16],
-    store: MaskStore,
-    text: &[u8],
-    size: usize,
-    walked: &mut [usize],
-    planned: &mut [usize],
-) -> bool {
-    if walked.len() < size {
-        return false;
-    }
-    if planned.len() < size {
-        return false;
-    }
-    into_buffers(
-        graph,
-        plan,
-        store,
-        text,
-        &mut walked[0..size],
-        &mut planned[0..size],
-    )
-}
-
-// Buffers of `size` words, without room for an entry: none is listed, and the scan stays.
-fn no_room(
-    graph: &[u16],
-    plan: &[u16],
-    store: MaskStore,
-    text: &[u8],
-    size: usize,
-    walked: &mut [usize],
-    planned: &mut [usize],
-) -> bool {
-    if walked.len() < size {
-        return false;
-    }
-    if planned.len() < size {
-        return false;
-    }
-    let spot = call(
-        graph,
-        plan,
-        store,
-        text,
-        first(),
-        &mut walked[0..size],
-        &mut planned[0..size],
-    );
-    spot.same && reads_at(spot.scan, 0)
-}
-
-// The text of run i: into buffers with room for more entries than there are, into small ones, and into ones with no room. The lengths change from run
-// to run, and not all are threefold.
-pub(crate) fn alike(
-    graph: &[u16],
-    plan: &[u16],
-    store: MaskStore,
-    text: &[u8],
-    i: usize,
-    walked: &mut [usize],
-    planned: &mut [usize],
-) -> bool {
+// The text of run i: into buffers with room for more entries than there are, into small ones, and into ones with no room, where none is listed, and the
+// scan stays. The lengths change from run to run, and not all are threefold.
+pub(crate) fn alike(graph: &[u16], plan: &[u16], store: MaskStore, text: &[u8], i: usize) -> bool {
     if 65535 < text.len() {
         return false;
     }
     let spare = i % 3;
-    let all = 3 * text.len() + 3 + spare;
-    let small = 3 + i % 10;
-    let whole = into_parts(graph, plan, store, text, all, walked, planned);
-    let parts = into_parts(graph, plan, store, text, small, walked, planned);
-    let none = no_room(graph, plan, store, text, spare, walked, planned);
-    whole && parts && none
+    let none = turn(graph, plan, store, text, first(), spare);
+    none.same
+        && place(none.scan) == 0
+        && into_buffers(graph, plan, store, text, 3 * text.len() + 3 + spare)
+        && into_buffers(graph, plan, store, text, 3 + i % 10)
 }

@@ -1,56 +1,50 @@
 // Replays the stored plans and planned runs (docs/ORACLE.md, "plans.bin"): every graph is planned on its store, and every text is run and listed by
 // the plan. Answers, refusals, the lent buffers and the whole store are compared with what the original answers.
-mod cases;
-mod counted;
 mod lists;
 mod plan;
 mod run;
-mod stores;
 
-use crate::counted::Counted;
+use vectors::cases::Walk;
+use vectors::cases::kind;
+use vectors::cases::tell;
 
-// Room for the graph of 1,024 states and of one more.
-fn graph_room() -> [u16; 265216] {
-    [0; 265216]
-}
-
-// There is room for the plan of such a graph too. What has no room here differs.
 fn main() {
     let mut space = vectors::space();
     let n = io::read_full(0, &mut space);
-    let mut graph = graph_room();
-    let mut plan = [0u16; 4096];
-    let mut walked = [0usize; 1024];
-    let mut planned = [0usize; 1024];
-    replay(
-        &space[..n],
-        &mut graph,
-        &mut plan,
-        &mut walked,
-        &mut planned,
-    );
+    let list = &space[..n];
+    let w = replay(list);
+    tell_all(w);
+    vectors::cases::tell_end(list, w);
 }
 
-// All of a list. The buffers take the words of one graph and of its plan, and the entries of two lists.
-fn replay(
-    list: &[u8],
-    graph: &mut [u16],
-    plan: &mut [u16],
-    walked: &mut [usize],
-    planned: &mut [usize],
-) {
-    let end = tell(cases::all(list, graph, plan, walked, planned));
-    vectors::tally::tell_end(list, end);
+fn tell_all(w: Walk) {
+    tell(b"planned:", w, 0);
+    tell(b"refused 12:", w, 1);
+    tell(b"refused 14:", w, 2);
+    tell(b"refused 15:", w, 3);
+    tell(b"runs:", w, 4);
+    tell(b"runs refused:", w, 5);
 }
 
-// Prints a line for each kind, and answers the place after the last case.
-fn tell(c: Counted) -> usize {
-    vectors::tally::tell(b"planned:", c.planned);
-    vectors::tally::tell(b"refused 12:", c.twelve);
-    vectors::tally::tell(b"refused 14:", c.fourteen);
-    vectors::tally::tell(b"refused 15:", c.fifteen);
-    vectors::tally::tell(b"runs:", c.runs);
-    vectors::tally::tell(b"runs refused:", c.refused);
-    vectors::tally::tell(b"lists:", c.lists);
-    c.at
+fn replay(list: &[u8]) -> Walk {
+    let mut w = vectors::cases::begun(4);
+    while w.at < list.len() {
+        let host = vectors::cases::host(list, w);
+        let same = alike(host, vectors::cases::next(list, w), w.cases);
+        w = vectors::cases::noted(list, w, same);
+    }
+    w
+}
+
+// The case with number i; a run belongs to the planning before it.
+fn alike(host: &[u8], case: &[u8], i: usize) -> bool {
+    match kind(case) {
+        0 => plan::alike(case, 0, i),
+        1 => plan::alike(case, 12, i),
+        2 => plan::alike(case, 14, i),
+        3 => plan::alike(case, 15, i),
+        4 => kind(host) == 0 && run::alike(host, case, i),
+        5 => kind(host) == 0 && run::alike(host, case, i),
+        _ => false,
+    }
 }

@@ -1,8 +1,45 @@
 // Planning, against the stored plan: the answer, the buffer whole, and the store bit by bit.
-use crate::cases::Stored;
 use mask_store::MaskStore;
 use plans::plan::PlanAnswer;
 use plans::plan::Planning;
+use vectors::cases::number;
+use vectors::cases::part;
+use vectors::words::front;
+
+// Room for the graph of 1,024 states and of one more.
+pub(crate) fn graph_room() -> [u16; 265216] {
+    [0; 265216]
+}
+
+// Room for the plan of such a graph, filled with a word.
+pub(crate) fn plan_room(fill: u16) -> [u16; 4096] {
+    [fill; 4096]
+}
+
+// What the plan buffers are filled with.
+pub(crate) fn pattern(case: &[u8]) -> u16 {
+    (number(case, 0) % 65536) as u16
+}
+
+fn store_of(case: &[u8], masks: &[u8], count: usize) -> MaskStore {
+    MaskStore {
+        tables: vectors::masks::tables((number(case, 1) % 256) as u8, masks),
+        count: count,
+    }
+}
+
+// The store before planning, and after it.
+pub(crate) fn before(case: &[u8]) -> MaskStore {
+    store_of(case, part(case, 1), number(case, 2))
+}
+
+pub(crate) fn after(case: &[u8]) -> MaskStore {
+    store_of(case, part(case, 2), number(case, 3))
+}
+
+fn same_store(one: MaskStore, other: MaskStore) -> bool {
+    one.count == other.count && check::same(&one.tables, &other.tables)
+}
 
 // A graph planned on a store, which is lent where `by_loan` says so.
 fn planned(graph: &[u16], out: &mut [u16], store: MaskStore, by_loan: bool) -> Planning {
@@ -13,95 +50,71 @@ fn planned(graph: &[u16], out: &mut [u16], store: MaskStore, by_loan: bool) -> P
     }
 }
 
-// What a call answered and left in the buffer, which was filled with one value: so many classes gained, the plan, and the rest as found; or the
-// refusal, and all as found.
-fn answer_alike(answer: PlanAnswer, out: &[u16], value: u16, list: &[u8], case: Stored) -> bool {
+// How many classes the store gains.
+fn gained(case: &[u8]) -> usize {
+    let count = number(case, 2);
+    let grown = number(case, 3);
+    if grown < count { 0 } else { grown - count }
+}
+
+// So many classes gained, or the refusal.
+fn answer_alike(answer: PlanAnswer, refusal: usize, case: &[u8]) -> bool {
     match answer {
-        PlanAnswer::Planned(n) => {
-            case.refusal == 0
-                && n == case.gained
-                && vectors::runs::same(out, 0, list, case.plan)
-                && vectors::parts::words_are(
-                    out,
-                    vectors::runs::count(list, case.plan),
-                    out.len(),
-                    value,
-                )
-        }
-        PlanAnswer::Refused(r) => {
-            case.refusal != 0
-                && r as usize == case.refusal
-                && vectors::parts::words_are(out, 0, out.len(), value)
-        }
+        PlanAnswer::Planned(n) => refusal == 0 && n == gained(case),
+        PlanAnswer::Refused(r) => refusal != 0 && r as usize == refusal,
     }
 }
 
-// A call on a whole buffer.
-fn call_alike(
+// A call on a whole buffer, which is then to be as another.
+fn filled_alike(
+    case: &[u8],
     graph: &[u16],
-    out: &mut [u16],
-    value: u16,
+    refusal: usize,
     by_loan: bool,
-    list: &[u8],
-    case: Stored,
-    before: MaskStore,
-    after: MaskStore,
-) -> bool {
-    let n = out.len();
-    vectors::parts::fill(out, 0, n, value);
-    let p = planned(graph, out, before, by_loan);
-    let answer = p.answer;
-    answer_alike(answer, out, value, list, case) && crate::stores::same(p.store, after)
-}
-
-// What the buffers of case i are filled with.
-fn pattern(i: usize) -> u16 {
-    (20011 * (i % 32767) % 65521) as u16
-}
-
-// The case with number i, by its graph words, if they are sound: on a buffer of the length that it says, and on a longer one; the one by value and the other by a loan, in turn. Where 14
-// refuses the first, the second may do.
-pub(crate) fn alike(
-    graph: &[u16],
-    sound: bool,
-    i: usize,
-    list: &[u8],
-    case: Stored,
-    before: MaskStore,
-    after: MaskStore,
     out: &mut [u16],
+    out_after: &[u16],
 ) -> bool {
-    let size = case.buffer;
-    if !sound {
+    let p = planned(graph, out, before(case), by_loan);
+    let answer = p.answer;
+    answer_alike(answer, refusal, case)
+        && same_store(p.store, after(case))
+        && vectors::words::same(out, out_after)
+}
+
+fn call_alike(
+    case: &[u8],
+    graph: &[u16],
+    refusal: usize,
+    by_loan: bool,
+    out_after: &[u16],
+) -> bool {
+    let mut out = plan_room(pattern(case));
+    let n = out_after.len();
+    if out.len() < n {
         return false;
     }
+    filled_alike(case, graph, refusal, by_loan, &mut out[0..n], out_after)
+}
+
+// The case with number i: on a buffer of the stored length, and on a longer one; the one by value and the other by a loan, in turn. Where 14 refuses the
+// first, the second may do. Where planning is refused, so is a run, of any text, and by the same number: 12 and 15 do not look at the plan, and 14 at its
+// length first.
+pub(crate) fn alike(case: &[u8], refusal: usize, i: usize) -> bool {
+    let mut room = graph_room();
+    let n = vectors::cases::words(case, 0, &mut room);
+    let graph = front(&room, n);
+    let mut out = plan_room(pattern(case));
+    let size = vectors::cases::words(case, 3, &mut out);
+    let just = front(&out, size);
+    let turn = i % 2 == 1;
     if out.len() < size {
         return false;
     }
-    let longer = size + 1 + i % 5;
-    if out.len() < longer {
-        return false;
-    }
-    let turn = i % 2 == 1;
-    let just = call_alike(
-        graph,
-        &mut out[0..size],
-        pattern(i),
-        turn,
-        list,
-        case,
-        before,
-        after,
-    );
-    let more = call_alike(
-        graph,
-        &mut out[0..longer],
-        pattern(i / 2),
-        !turn,
-        list,
-        case,
-        before,
-        after,
-    );
-    just && (more || case.refusal == 14)
+    let longer = front(&out, size + 1 + i % 5);
+    vectors::cases::shaped(case, 4, 4)
+        && n <= room.len()
+        && call_alike(case, graph, refusal, turn, just)
+        && (refusal == 14 || call_alike(case, graph, refusal, !turn, longer))
+        && (refusal == 0
+            || crate::run::refused_alike(graph, just, before(case), part(case, 0), refusal))
 }

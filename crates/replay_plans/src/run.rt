@@ -1,52 +1,30 @@
 // Runs by a plan, against the stored outcomes, and beside the walk of the graph.
-ghost use Prim.Native.Nat.{_<_};
-use crate::counted::Counted;
-use crate::counted::Seen;
 use graph::read::Read;
 use mask_store::MaskStore;
+use vectors::cases::number;
+use vectors::cases::part;
+use vectors::words::front;
 
-// A run of the list: where its parts stand, and what is said of it.
-struct Attempt {
-    // whether it has the store that planning left
-    pub grown: bool,
-    // how many words of the plan it is given; which of them is changed, 65,535 for none, and to what
-    pub words: usize,
-    pub changed: usize,
-    pub to: usize,
-    // the place of the text, its length, and the place of the outcome
-    pub text: usize,
-    pub length: usize,
-    pub outcome: usize,
-}
+// What is added to the number of a refusal: no reading is so large a number.
+const REFUSED: usize = 4294967296;
 
-// The run at a place.
-fn read(list: &[u8], at: usize) -> Attempt
-    ensures { λ r. ⌜ (r .words < 65536) × (r .to < 65536) ⌝ }
-{
-    let text = vectors::after(list, at, 9);
-    let length = vectors::half(list, vectors::after(list, at, 7));
-    Attempt {
-        grown: vectors::byte(list, at) == 1,
-        words: vectors::half(list, vectors::after(list, at, 1)),
-        changed: vectors::half(list, vectors::after(list, at, 3)),
-        to: vectors::half(list, vectors::after(list, at, 5)),
-        text: text,
-        length: length,
-        outcome: vectors::after(list, text, length),
+// A token as the list has it.
+fn token(leaf: usize, end: usize) -> usize {
+    if 65534 < leaf {
+        return REFUSED;
     }
+    if 65535 < end {
+        return REFUSED;
+    }
+    leaf + 65536 * end
 }
 
-// ---- outcomes
-
-// An answer against the outcome at a place: byte refusal; half leaf, 65,535 for none; half end, 0 with none.
-fn outcome_alike(answer: Read, list: &[u8], at: usize) -> bool {
-    let refusal = vectors::count(list, at);
-    let leaf = vectors::half(list, vectors::after(list, at, 1));
-    let end = vectors::half(list, vectors::after(list, at, 3));
+// A reading as the list has it.
+fn read_number(answer: Read) -> usize {
     match answer {
-        Read::Found(l, e) => refusal == 0 && leaf != 65535 && l == leaf && e == end,
-        Read::Nothing => refusal == 0 && leaf == 65535 && end == 0,
-        Read::Refused(r) => { refusal != 0 && r as usize == refusal && leaf == 65535 && end == 0 }
+        Read::Found(leaf, end) => token(leaf, end),
+        Read::Nothing => 65535,
+        Read::Refused(r) => REFUSED + r as usize,
     }
 }
 
@@ -58,202 +36,94 @@ fn refused(answer: Read, refusal: usize) -> bool {
     }
 }
 
-// ---- a run
-
-// The first n words of a buffer; none where it has fewer.
-pub(crate) fn front(words: &[u16], n: usize) -> &[u16] {
-    if words.len() < n {
-        return &words[0..0];
+// The outcome of a run: its refusal, or its reading, which is none where it is refused.
+fn outcome(case: &[u8]) -> usize {
+    if number(case, 4) == 0 {
+        number(case, 5)
+    } else {
+        REFUSED + number(case, 4)
     }
-    &words[0..n]
-}
-
-// The plan, which stands at a place, in the front of a buffer, with the word that the run changes; or no, where it is not sound.
-fn give(list: &[u8], at: usize, a: Attempt, plan: &mut [u16]) -> bool
-    requires { ⌜ a .to < 65536 ⌝ }
-{
-    let i = a.changed;
-    let sound = vectors::runs::unpack(list, at, plan);
-    if i < plan.len() {
-        plan[i] = a.to as u16;
-    }
-    sound
 }
 
 // A store with a class more, if it has room and lacks it: the masks that it holds keep their numbers.
-fn with_more(store: MaskStore, list: &[u8], at: usize) -> MaskStore {
-    let added = mask_store::add_by_value(store, vectors::flags(list, at));
+fn with_more(store: MaskStore, bytes: &[u8]) -> MaskStore {
+    let added = mask_store::add_by_value(store, vectors::flags(bytes, 0));
     added.store
 }
 
-// A run by the words that it is given; and by more words, if it is given all, and a store with a class more, if it has the one that planning left:
-// the outcome is the same.
-fn outcomes_alike(
+// The plan of a case in the front of a buffer, with the word that a run changes: how many words the buffer holds.
+fn give(host: &[u8], case: &[u8], plan: &mut [u16]) -> usize {
+    let n = vectors::cases::words(host, 3, plan);
+    let i = number(case, 2);
+    if i < plan.len() {
+        plan[i] = (number(case, 3) % 65536) as u16;
+    }
+    n
+}
+
+// Run i by the words that it is given; and by more words, if it is given all of the plan, and a store with a class more, if it has the one that planning
+// left. The outcome is the same. Where it is not refused, the walk of the graph reads the same, and lists the same as the plan.
+fn by_plan(
+    host: &[u8],
+    case: &[u8],
     graph: &[u16],
-    plan: &[u16],
+    given: &[u16],
     longer: &[u16],
-    store: MaskStore,
-    wider: MaskStore,
-    list: &[u8],
-    a: Attempt,
+    i: usize,
 ) -> bool {
-    let text = vectors::part(list, a.text, a.length);
-    let just = outcome_alike(plans::run::run(graph, plan, store, text), list, a.outcome);
-    let more = outcome_alike(plans::run::run(graph, longer, wider, text), list, a.outcome);
-    just && more
-}
-
-// Run i, which was alike so far or not: where it is not refused, the walk of the graph reads the same, and lists the same as the plan.
-fn beside_walk(
-    graph: &[u16],
-    plan: &[u16],
-    store: MaskStore,
-    i: usize,
-    list: &[u8],
-    a: Attempt,
-    same: bool,
-    walked: &mut [usize],
-    planned: &mut [usize],
-) -> Seen {
-    let text = vectors::part(list, a.text, a.length);
-    let refusal = vectors::count(list, a.outcome);
-    let end = vectors::after(list, a.outcome, 5);
-    if refusal == 0 {
-        let by_walk = outcome_alike(graph::read::read_graph(graph, text), list, a.outcome);
-        return Seen {
-            at: end,
-            refused: false,
-            run: same && by_walk,
-            list: crate::lists::alike(graph, plan, store, text, i, walked, planned),
-        };
-    }
-    Seen {
-        at: end,
-        refused: true,
-        run: same,
-        list: crate::lists::all_refuse(graph, plan, store, text, refusal, walked, planned),
-    }
-}
-
-// Run i, by a buffer that begins with its plan, which is sound or not; `all` says that it is given all of that.
-fn by_words(
-    list: &[u8],
-    noted: Counted,
-    graph: &[u16],
-    before: MaskStore,
-    after: MaskStore,
-    i: usize,
-    a: Attempt,
-    all: bool,
-    sound: bool,
-    plan: &[u16],
-    walked: &mut [usize],
-    planned: &mut [usize],
-) -> Counted
-    requires { ⌜ a .words < 65536 ⌝ }
-{
-    let longer = if all { a.words + 1 + i % 4 } else { a.words };
-    let store = if a.grown { after } else { before };
-    let wider = if a.grown {
-        with_more(after, list, a.text)
+    let text = part(case, 0);
+    let grown = number(case, 0) == 1;
+    let store = if grown {
+        crate::plan::after(host)
     } else {
-        before
+        crate::plan::before(host)
     };
-    let given = front(plan, a.words);
-    let same = outcomes_alike(graph, given, front(plan, longer), store, wider, list, a);
-    let seen = beside_walk(
-        graph,
-        given,
-        store,
-        i,
-        list,
-        a,
-        sound && same,
-        walked,
-        planned,
-    );
-    crate::counted::run_noted(noted, seen)
+    let wider = if grown { with_more(store, text) } else { store };
+    let by_walk = read_number(graph::read::read_graph(graph, text));
+    read_number(plans::run::run(graph, given, store, text)) == outcome(case)
+        && read_number(plans::run::run(graph, longer, wider, text)) == outcome(case)
+        && (if number(case, 4) == 0 {
+            by_walk == outcome(case) && crate::lists::alike(graph, given, store, text, i)
+        } else {
+            number(case, 5) == 65535
+                && crate::lists::all_refuse(graph, given, store, text, number(case, 4))
+        })
 }
 
-// Run i, which stands next; its plan stands at `stored`.
-fn one(
-    list: &[u8],
-    noted: Counted,
-    graph: &[u16],
-    stored: usize,
-    before: MaskStore,
-    after: MaskStore,
-    i: usize,
-    plan: &mut [u16],
-    walked: &mut [usize],
-    planned: &mut [usize],
-) -> Counted {
-    let a = read(list, noted.at);
-    let all = a.words == vectors::runs::count(list, stored);
-    let sound = give(list, stored, a, plan);
-    by_words(
-        list,
-        noted,
-        graph,
-        before,
-        after,
-        i,
-        a,
-        all,
-        sound,
-        plan,
-        walked,
-        planned,
-    )
-}
-
-// All runs of a case, the number of which stands next; its plan stands at `stored`.
-pub(crate) fn all(
-    list: &[u8],
-    noted: Counted,
-    graph: &[u16],
-    stored: usize,
-    before: MaskStore,
-    after: MaskStore,
-    plan: &mut [u16],
-    walked: &mut [usize],
-    planned: &mut [usize],
-) -> Counted {
-    let n = vectors::half(list, noted.at);
-    let mut c = crate::counted::moved(noted, vectors::after(list, noted.at, 2));
-    for i in 0..n {
-        let place = c.at;
-        if list.len() < place {
-            return c;
-        }
-        c = one(
-            list,
-            c,
-            graph,
-            stored,
-            before,
-            after,
+// The run with number i.
+pub(crate) fn alike(host: &[u8], case: &[u8], i: usize) -> bool {
+    let mut room = crate::plan::graph_room();
+    let n = vectors::cases::words(host, 0, &mut room);
+    let mut plan = crate::plan::plan_room(crate::plan::pattern(host));
+    let held = give(host, case, &mut plan);
+    let words = number(case, 1);
+    // the graph's first word, in its first run
+    let states = vectors::half(part(host, 0), 2);
+    let longer = if words == 3 * states {
+        words + 1 + i % 4
+    } else {
+        words
+    };
+    vectors::cases::shaped(case, 6, 1)
+        && words <= held
+        && by_plan(
+            host,
+            case,
+            front(&room, n),
+            front(&plan, words),
+            front(&plan, longer),
             i,
-            plan,
-            walked,
-            planned,
-        );
-    }
-    c
+        )
 }
 
-// ---- a case that planning refuses
-
-// A run by as many plan words as the buffer has is refused by the same number: 12 and 15 do not look at the plan, and 14 at its length first.
+// A run that is refused by that number, and so is every list.
 pub(crate) fn refused_alike(
     graph: &[u16],
     plan: &[u16],
     store: MaskStore,
     text: &[u8],
     refusal: usize,
-    unseen: &mut [usize],
-    out: &mut [usize],
 ) -> bool {
     refused(plans::run::run(graph, plan, store, text), refusal)
-        && crate::lists::all_refuse(graph, plan, store, text, refusal, unseen, out)
+        && crate::lists::all_refuse(graph, plan, store, text, refusal)
 }

@@ -1,117 +1,56 @@
-// Priorities of literals: every string of two bytes, alone and behind a code point; those of three and four whose last bytes stand at an
-// edge; and strings of the list's own.
-ghost use Prim.Native.Nat.{_<_};
+// Priorities of literals: 256 strings of up to four bytes that differ at one place, and strings of any length.
 use pattern::PriorityAnswer;
-use vectors::tally::Case;
-use vectors::tally::Tally;
+use vectors::cases::number;
+use vectors::cases::part;
+use vectors::cases::shaped;
 
-// The priority of a literal of all n bytes; 1, which no literal has, where it is refused.
-fn priority(text: &[u8], n: u32) -> usize {
-    let tree = [1, 0, n, 0, 0, 0];
+// The priority of a literal of all bytes; 1, which no literal has, where it is refused.
+fn priority(text: &[u8]) -> usize {
+    if 65535 < text.len() {
+        return 1;
+    }
+    let tree = [1, 0, text.len() as u32, 0, 0, 0];
     match pattern::priority(&tree, text) {
         PriorityAnswer::Value(v) => v as usize,
         PriorityAnswer::Refused(_) => 1,
     }
 }
 
-// String i of two bytes, by its code: 0 one code point, 1 two, 2 ill-formed.
-fn two_alike(i: usize, code: usize) -> bool
-    requires { ⌜ i < 65536 ⌝ }
-    requires { ⌜ code < 256 ⌝ }
-{
-    let x = (i / 256) as u8;
-    let y = (i % 256) as u8;
-    let alone = if code == 0 { 2 } else { 4 };
-    priority(&[x, y], 2) == alone && priority(&[0xC3, 0xA9, x, y], 4) == 4 + 2 * code
+pub(crate) fn string_alike(case: &[u8]) -> bool {
+    shaped(case, 1, 1) && priority(part(case, 0)) == number(case, 0)
 }
 
-pub(crate) fn twos(list: &[u8], at: usize) -> Tally {
-    let end = vectors::after(list, at, 16384);
-    let mut t = vectors::tally::begun(end);
-    for i in 0..65536 {
-        let code = (vectors::count(list, vectors::after(list, at, i / 4)) >> (2 * (i % 4))) % 4;
-        t = vectors::tally::noted(
-            t,
-            Case {
-                at: end,
-                same: two_alike(i, code),
-            },
-        );
+// The priority of a string of up to four bytes with a byte at a place; 0 where it is no such string.
+fn with_byte(string: &[u8], place: usize, byte: u8) -> u16 {
+    let mut text = [
+        vectors::byte(string, 0),
+        vectors::byte(string, 1),
+        vectors::byte(string, 2),
+        vectors::byte(string, 3),
+    ];
+    let n = string.len();
+    if 4 < n {
+        return 0;
     }
-    t
+    if n <= place {
+        return 0;
+    }
+    text[place] = byte;
+    let value = priority(&text[0..n]);
+    if value < 65536 { value as u16 } else { 0 }
 }
 
-// The last bytes of the strings of three and of four.
-fn edge(i: usize) -> u8 {
-    match i % 4 {
-        0 => 0x7F,
-        1 => 0x80,
-        2 => 0xBF,
-        _ => 0xC0,
+fn row(string: &[u8], place: usize) -> [u16; 256] {
+    let mut found = [0; 256];
+    for b in 0..256 {
+        found[b] = with_byte(string, place, b as u8);
     }
+    found
 }
 
-pub(crate) fn threes(list: &[u8], at: usize) -> Tally {
-    let end = vectors::after(list, at, 2048);
-    let mut t = vectors::tally::begun(end);
-    for i in 0..16384 {
-        let text = [(0xE0 + i / 1024) as u8, (i / 4 % 256) as u8, edge(i)];
-        let one = vectors::bit(list, at, i);
-        let value = if one { 2 } else { 6 };
-        t = vectors::tally::noted(
-            t,
-            Case {
-                at: end,
-                same: priority(&text, 3) == value,
-            },
-        );
-    }
-    t
-}
-
-pub(crate) fn fours(list: &[u8], at: usize) -> Tally {
-    let end = vectors::after(list, at, 4096);
-    let mut t = vectors::tally::begun(end);
-    for i in 0..32768 {
-        let text = [
-            (0xF0 + i / 4096) as u8,
-            (i / 16 % 256) as u8,
-            edge(i / 4),
-            edge(i),
-        ];
-        let one = vectors::bit(list, at, i);
-        let value = if one { 2 } else { 8 };
-        t = vectors::tally::noted(
-            t,
-            Case {
-                at: end,
-                same: priority(&text, 4) == value,
-            },
-        );
-    }
-    t
-}
-
-// The string at a place: its length, the bytes, half the priority.
-fn string_alike(list: &[u8], at: usize) -> Case {
-    let n = vectors::count(list, at);
-    let text = vectors::part(list, vectors::after(list, at, 1), n);
-    let end = vectors::after(list, vectors::after(list, at, 1), n);
-    Case {
-        at: vectors::after(list, end, 1),
-        same: priority(text, n as u32) == 2 * vectors::count(list, end),
-    }
-}
-
-pub(crate) fn strings(list: &[u8], at: usize) -> Tally {
-    let n = vectors::word(list, at);
-    let mut t = vectors::tally::begun(vectors::after(list, at, 4));
-    for i in 0..n {
-        let place = t.at;
-        if list.len() < place {
-            return t;
-        }
-        t = vectors::tally::noted(t, string_alike(list, place));
-    }
-    t
+pub(crate) fn row_alike(case: &[u8]) -> bool {
+    let mut stored = [0u16; 256];
+    let n = vectors::cases::words(case, 1, &mut stored);
+    let found = row(part(case, 0), number(case, 0));
+    shaped(case, 1, 2) && n == 256 && vectors::words::same(&found, &stored)
 }

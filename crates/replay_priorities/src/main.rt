@@ -3,24 +3,33 @@
 mod literals;
 mod trees;
 
+use vectors::cases::Walk;
+
 fn main() {
     let mut space = vectors::space();
     let n = io::read_full(0, &mut space);
-    let mut tree = [0u32; 8192];
-    replay(&space[..n], &mut tree);
+    let list = &space[..n];
+    let w = replay(list);
+    vectors::cases::tell(b"rows of 256 literals", w, 0);
+    vectors::cases::tell(b"strings", w, 1);
+    vectors::cases::tell(b"trees", w, 2);
+    vectors::cases::tell_end(list, w);
 }
 
-// All of a list. `tree` takes the words of one tree after another.
-fn replay(list: &[u8], tree: &mut [u32]) {
-    let twos = literals::twos(list, 0);
-    vectors::tally::tell(b"two bytes", twos);
-    let threes = literals::threes(list, twos.at);
-    vectors::tally::tell(b"three bytes", threes);
-    let fours = literals::fours(list, threes.at);
-    vectors::tally::tell(b"four bytes", fours);
-    let strings = literals::strings(list, fours.at);
-    vectors::tally::tell(b"strings", strings);
-    let trees = trees::all(list, strings.at, tree);
-    vectors::tally::tell(b"trees", trees);
-    vectors::tally::tell_end(list, trees.at);
+fn replay(list: &[u8]) -> Walk {
+    let mut w = vectors::cases::begun(3);
+    while w.at < list.len() {
+        let same = alike(vectors::cases::next(list, w));
+        w = vectors::cases::noted(list, w, same);
+    }
+    w
+}
+
+fn alike(case: &[u8]) -> bool {
+    match vectors::cases::kind(case) {
+        0 => literals::row_alike(case),
+        1 => literals::string_alike(case),
+        2 => trees::alike(case),
+        _ => false,
+    }
 }

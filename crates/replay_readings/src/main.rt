@@ -1,72 +1,43 @@
 // Replays the stored readings and scans (docs/ORACLE.md, "readings.bin"): every table is built, and judged clean or not; every text is read by the
 // table and by the graph, scanned piece by piece, and listed into buffers; then the same of graphs that no table gives. Every value is compared with
 // the stored one.
-mod build;
-mod counted;
-mod entries;
-mod graphs;
 mod lists;
-mod reading;
 mod scan;
 mod tables;
 mod texts;
 
-use crate::counted::Counted;
+use vectors::cases::Walk;
+use vectors::cases::kind;
 
-// Room for a table or a graph.
-fn word_room() -> [u16; 65536] {
-    [0; 65536]
-}
-
-// What has no room here differs.
 fn main() {
     let mut space = vectors::space();
     let n = io::read_full(0, &mut space);
-    let mut table = word_room();
-    let mut stored = word_room();
-    let mut built = word_room();
-    let mut errors = [0u16; 4096];
-    let mut out = [0usize; 16384];
-    replay(
-        &space[..n],
-        &mut table,
-        &mut stored,
-        &mut built,
-        &mut errors,
-        &mut out,
-    );
+    let list = &space[..n];
+    let w = replay(list);
+    vectors::cases::tell(b"tables", w, 0);
+    vectors::cases::tell(b"graphs", w, 1);
+    vectors::cases::tell(b"texts of tables", w, 2);
+    vectors::cases::tell(b"texts of graphs", w, 3);
+    vectors::cases::tell_end(list, w);
 }
 
-// All of a list. The buffers take the words of one table, its stored graph and its build, and the entries of one list after another.
-fn replay(
-    list: &[u8],
-    table: &mut [u16],
-    stored: &mut [u16],
-    built: &mut [u16],
-    errors: &mut [u16],
-    out: &mut [usize],
-) {
-    let graphs = tell_tables(tables::all(list, 0, table, stored, built, errors, out));
-    let end = tell_graphs(graphs::all(list, graphs, stored, out));
-    vectors::tally::tell_end(list, end);
+fn replay(list: &[u8]) -> Walk {
+    let mut w = vectors::cases::begun(2);
+    while w.at < list.len() {
+        let host = vectors::cases::host(list, w);
+        let same = alike(host, vectors::cases::next(list, w), w.cases);
+        w = vectors::cases::noted(list, w, same);
+    }
+    w
 }
 
-// Prints the lines of the tables and their texts, and answers the place after them.
-fn tell_tables(tables: Counted) -> usize {
-    vectors::tally::tell(b"tables", tables.cases);
-    vectors::tally::tell(b"tables clean or not", tables.verdicts);
-    vectors::tally::tell(b"table readings", tables.readings);
-    vectors::tally::tell(b"readings of clean tables", tables.clean);
-    vectors::tally::tell(b"table scans", tables.scans);
-    vectors::tally::tell(b"table lists", tables.lists);
-    tables.at
-}
-
-// Prints the lines of the graphs and their texts, and answers the place after them.
-fn tell_graphs(graphs: Counted) -> usize {
-    vectors::tally::tell(b"graphs", graphs.cases);
-    vectors::tally::tell(b"graph readings", graphs.readings);
-    vectors::tally::tell(b"graph scans", graphs.scans);
-    vectors::tally::tell(b"graph lists", graphs.lists);
-    graphs.at
+// The case with number i; a text belongs to a table or a graph before it.
+fn alike(host: &[u8], case: &[u8], i: usize) -> bool {
+    match kind(case) {
+        0 => tables::alike(case),
+        1 => texts::graph_alike(case),
+        2 => kind(host) == 0 && texts::of_table(host, case, i),
+        3 => kind(host) == 1 && texts::of_graph(host, case, i),
+        _ => false,
+    }
 }

@@ -1,10 +1,12 @@
-// A scan, call by call: each piece, then ended, then 16.
+// A scan, call by call: each piece, then ended, then 16. The pieces are entries of a list: start, end and leaf, 65,535 for a gap, a word each.
+ghost use Prim.Native.Nat.{_<_};
 use plans::scan::NextAnswer;
 use plans::scan::Place;
 use plans::scan::Scan;
 use plans::scan::Scanned;
 
-// ---- the state of a scan
+// Where a scan stands that has ended.
+pub(crate) const ENDED: usize = 18446744073709551615;
 
 // A scan that begins at an offset.
 pub(crate) fn begun(offset: usize) -> Scan {
@@ -16,59 +18,38 @@ pub(crate) fn begun(offset: usize) -> Scan {
     }
 }
 
-pub(crate) fn reads_at(scan: Scan, offset: usize) -> bool {
+// Where a scan stands.
+pub(crate) fn place(scan: Scan) -> usize {
     let place = scan.place;
     match place {
-        Place::Reading(at) => at == offset,
-        Place::Ended => false,
+        Place::Reading(at) => at,
+        Place::Ended => ENDED,
     }
 }
 
-pub(crate) fn has_ended(scan: Scan) -> bool {
-    let place = scan.place;
-    match place {
-        Place::Reading(_) => false,
-        Place::Ended => true,
-    }
+// Word j of entry k.
+pub(crate) fn entry(entries: &[u8], k: usize, j: usize) -> usize
+    requires { ⌜ k < 4294967296 ⌝ }
+    requires { ⌜ j < 3 ⌝ }
+{
+    vectors::word(entries, 12 * k + 4 * j)
 }
 
-// Whether two scans stand at the same place.
-pub(crate) fn same_scan(one: Scan, other: Scan) -> bool {
-    let place = one.place;
-    match place {
-        Place::Reading(at) => reads_at(other, at),
-        Place::Ended => has_ended(other),
-    }
-}
-
-// ---- the pieces of a list: half, how many; each: byte leaf, 255 for a gap; half length
-
-// The place after the pieces.
-pub(crate) fn pieces_end(list: &[u8], at: usize) -> usize {
-    vectors::after(list, at, 2 + 3 * vectors::half(list, at))
-}
-
-// Where the piece at a place of the list ends in the text, if it begins at `start`; one past the text, if it is said to end past it.
-pub(crate) fn piece_end(list: &[u8], at: usize, text: &[u8], start: usize) -> usize {
-    vectors::after(
-        text,
-        start,
-        vectors::half(list, vectors::after(list, at, 1)),
-    )
-}
-
-// ---- answers
-
-// The piece of that leaf, 255 for a gap, as an answer; and the scan after it.
-fn piece_alike(scanned: Scanned, leaf: usize, start: usize, end: usize) -> bool {
+// Entry k as an answer, and the scan after it.
+fn piece_alike(scanned: Scanned, entries: &[u8], k: usize) -> bool
+    requires { ⌜ k < 4294967296 ⌝ }
+{
+    let start = entry(entries, k, 0);
+    let end = entry(entries, k, 1);
+    let leaf = entry(entries, k, 2);
     let answer = scanned.answer;
     let same = match answer {
-        NextAnswer::Token(l, s, e) => leaf != 255 && l == leaf && s == start && e == end,
-        NextAnswer::Gap(s, e) => leaf == 255 && s == start && e == end,
+        NextAnswer::Token(l, s, e) => leaf != 65535 && l == leaf && s == start && e == end,
+        NextAnswer::Gap(s, e) => leaf == 65535 && s == start && e == end,
         NextAnswer::Ended => false,
         NextAnswer::Refused(_) => false,
     };
-    same && reads_at(scanned.scan, end)
+    same && place(scanned.scan) == end
 }
 
 // Ended, and so is the scan.
@@ -80,7 +61,7 @@ fn ended_alike(scanned: Scanned) -> bool {
         NextAnswer::Ended => true,
         NextAnswer::Refused(_) => false,
     };
-    same && has_ended(scanned.scan)
+    same && place(scanned.scan) == ENDED
 }
 
 // Whether the next call is refused by that number, and the scan is as it was.
@@ -93,25 +74,30 @@ pub(crate) fn refused(scan: Scan, graph: &[u16], text: &[u8], refusal: usize) ->
         NextAnswer::Ended => false,
         NextAnswer::Refused(n) => n as usize == refusal,
     };
-    same && same_scan(scanned.scan, scan)
+    same && place(scanned.scan) == place(scan)
 }
 
-// The scan from an offset, with its pieces at a place.
-pub(crate) fn alike(graph: &[u16], text: &[u8], offset: usize, list: &[u8], at: usize) -> bool {
-    let n = vectors::half(list, at);
-    let mut place = vectors::after(list, at, 2);
-    let mut start = offset;
-    let mut scan = begun(offset);
-    for i in 0..n {
-        let end = piece_end(list, place, text, start);
+// The next n pieces, and then ended.
+fn pieces_alike(start: Scan, graph: &[u16], text: &[u8], entries: &[u8], n: usize) -> bool
+    requires { ⌜ n < 65536 ⌝ }
+{
+    let mut scan = start;
+    for k in 0..n {
         let scanned = scan.next(graph, text);
-        if !piece_alike(scanned, vectors::count(list, place), start, end) {
+        if !piece_alike(scanned, entries, k) {
             return false;
         }
         scan = scanned.scan;
-        start = end;
-        place = vectors::after(list, place, 3);
     }
     let last = scan.next(graph, text);
     ended_alike(last) && refused(last.scan, graph, text, 16)
+}
+
+// The scan from an offset on.
+pub(crate) fn alike(graph: &[u16], text: &[u8], offset: usize, entries: &[u8]) -> bool {
+    let n = entries.len() / 12;
+    if 65535 < n {
+        return false;
+    }
+    entries.len() % 12 == 0 && pieces_alike(begun(offset), graph, text, entries, n)
 }

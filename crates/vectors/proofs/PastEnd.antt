@@ -28,15 +28,6 @@ module _ (list : List ℕ) where
           byte-past (min at (length list + 1)) (omega (arith, leb-false at (length list) e))
           ∙ sym (byte-past at (omega (arith, leb-false at (length list) e)))
 
-  pub word-held : (at : ℕ) → wordAt list (min at (length list + 1)) ≡ wordAt list at
-  word-held at = held (leb at (length list)) refl
-    where
-      held : (b : Bool) → leb at (length list) ≡ b → wordAt list (min at (length list + 1)) ≡ wordAt list at
-      held true e = ap (wordAt list) (omega (arith, leb-true at (length list) e))
-      held false e =
-          word-past (min at (length list + 1)) (omega (arith, leb-false at (length list) e))
-          ∙ sym (word-past at (omega (arith, leb-false at (length list) e)))
-
   pub part-none : (at n : ℕ) → length list < at + n → [] ≡ partAt list at n
   part-none at n h = simp (lt-leb _ _ h)
 

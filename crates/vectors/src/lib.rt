@@ -9,9 +9,10 @@ ghost use Prim.Native.Nat.{_<_, min, _+_};
 ghost use lib.ListN.{length, replicate};
 ghost use Rattle.vectors.specs.Reading.{byteAt, halfAt, wordAt, bitAt, flagsAt, partAt};
 
+pub mod cases;
+pub mod masks;
 pub mod parts;
-pub mod runs;
-pub mod tally;
+pub mod words;
 
 // Room for a list. Large buffers are made by calls: to lend an array that it makes itself, a function has to prove its length, which is found by
 // counting.

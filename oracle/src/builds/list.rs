@@ -6,9 +6,9 @@ use crate::form::Stored;
 use crate::random::Random;
 use crate::tables::cases::{delayed, dense, layered, many_rounds, random_table, wild};
 use crate::tables::{Leaf, State, Table};
-use crate::words::runs;
+use crate::words::{packed_runs, runs};
 
-/// Document 01's K1, with so many leaves of one priority on its last state.
+/// K1, with so many leaves of one priority on its last state.
 pub fn k1(leaves: usize) -> Table {
     let mut table = Table { start: 1, leaves: Vec::new(), states: vec![State::dead(); 4], records: Vec::new() };
     table.leaves.resize(leaves, Leaf { priority: 2, empty: false });
@@ -18,7 +18,7 @@ pub fn k1(leaves: usize) -> Table {
     table
 }
 
-/// Document 01's K14: two states with one tie.
+/// K14: two states with one tie.
 pub fn k14() -> Table {
     let mut table = k1(2);
     table.states.push(table.states[3].clone());
@@ -179,23 +179,23 @@ fn large(random: &mut Random) -> Vec<Vec<u16>> {
     tables
 }
 
-fn store(stored: &mut Stored, case: &Case) {
-    stored.runs(&case.table);
-    stored.byte(usize::from(case.odd.is_some()));
-    stored.byte(usize::from(case.odd.unwrap_or(0)));
-    stored.word(case.graph_buffer);
-    stored.word(case.error_buffer);
+/// The kind is the refusal of the image, 10 for 13. Both buffers are given whole, as they are after the call on words; `fill` is what they held.
+fn store(stored: &mut Stored, fill: u16, case: &Case) {
     let outcome = case.of_words();
-    let refusal = outcome.as_ref().err().copied().unwrap_or(0);
-    stored.byte(usize::from(refusal));
-    stored.byte(usize::from(if case.image_refused() { 13 } else { refusal }));
+    let refusal = usize::from(outcome.as_ref().err().copied().unwrap_or(0));
+    let kind = if case.image_refused() { 10 } else { refusal };
+    let mut numbers = vec![usize::from(fill), refusal, 0, 0, 0, 0];
+    let (mut graph, mut errors) = (Vec::new(), Vec::new());
     if let Ok(built) = outcome {
-        stored.half(built.states);
-        stored.half(built.root);
-        stored.half(built.errors);
-        stored.runs(&built.error_words);
-        stored.runs(&built.graph);
+        numbers[2..].copy_from_slice(&[built.states, built.root, built.errors, built.error_words.len()]);
+        graph = built.graph;
+        graph.resize(2 + 258 * usize::from(case.table[0]), 0);
+        errors = built.error_words;
     }
+    graph.resize(case.graph_buffer, fill);
+    errors.resize(case.error_buffer, fill);
+    let odd = case.odd.into_iter().collect::<Vec<_>>();
+    stored.case(kind, &numbers, &[&packed_runs(&case.table), &odd, &packed_runs(&graph), &packed_runs(&errors)]);
 }
 
 /// The list, with these images among its tables.
@@ -217,9 +217,8 @@ pub fn list(images: &[(Vec<u16>, Vec<u8>)]) -> Vec<u8> {
         let table = damaged(&mut random, table);
         cases.push(sufficing(&mut random, table));
     }
-    stored.word(cases.len());
-    for case in &cases {
-        store(&mut stored, case);
+    for (number, case) in cases.iter().enumerate() {
+        store(&mut stored, (1 + 20_011 * number % 65_521) as u16, case);
     }
     stored.0
 }

@@ -1,10 +1,11 @@
 //! The stored list of classes and stores (docs/ORACLE.md, "classes.bin").
 
 use super::cases::{illegal_store, of_range, random_class, random_store, runs_and_gaps, sprinkled};
-use super::{class_answer, held_classes, packed, store_answer, Flags, StoreAnswer, StoreCase};
+use super::{class_answer, held_classes, packed, store_answer, Compared, Flags, StoreCase};
 use crate::form::Stored;
 use crate::random::Random;
-use std::collections::HashSet;
+use logos_codegen::graph::Comparisons;
+use std::collections::{BTreeSet, HashSet};
 
 /// The classes of the stored list, each once.
 fn listed_classes() -> Vec<Flags> {
@@ -13,7 +14,7 @@ fn listed_classes() -> Vec<Flags> {
     classes.extend((0..256).map(|last| of_range(0, last)));
     classes.extend((0..256).map(|first| of_range(first, 255)));
     classes.extend((0..256).map(|out| std::array::from_fn(|byte| byte != out)));
-    // document 01's K5: 5 to 10 and 12 to 16
+    // K5: 5 to 10 and 12 to 16
     classes.push(std::array::from_fn(|byte| (5..=10).contains(&byte) || (12..=16).contains(&byte)));
     // every pattern of up to six bytes, repeated over all 256
     for width in 2..=6 {
@@ -54,19 +55,27 @@ fn listed_classes() -> Vec<Flags> {
 
 fn store_class(stored: &mut Stored, flags: &Flags) {
     let answer = class_answer(flags);
-    stored.bytes(&packed(flags));
-    stored.byte(answer.ranges.len());
-    for (first, last) in answer.ranges {
-        stored.bytes(&[first, last]);
+    let (first, last): (Vec<_>, Vec<_>) = answer.ranges.into_iter().unzip();
+    let of_all = |of: fn(&Compared) -> u8| answer.comparisons.iter().map(of).collect::<Vec<_>>();
+    let compared = [of_all(|c| c.first), of_all(|c| c.last), of_all(|c| c.except.len() as u8)];
+    let except = answer.comparisons.iter().flat_map(|c| c.except.clone()).collect::<Vec<_>>();
+    stored.case(0, &[answer.cost], &[&packed(flags), &first, &last, &compared[0], &compared[1], &compared[2], &except]);
+}
+
+/// First and last byte, the number of exceptions, and `count_ops`: of all comparisons of the classes, and of ones that no class has, single bytes with
+/// exceptions and ranges with many.
+fn listed_ops(classes: &[Flags]) -> BTreeSet<[usize; 4]> {
+    let mut listed = BTreeSet::new();
+    for compared in classes.iter().flat_map(|class| class_answer(class).comparisons) {
+        listed.insert([usize::from(compared.first), usize::from(compared.last), compared.except.len(), compared.ops]);
     }
-    stored.byte(answer.comparisons.len());
-    for compared in answer.comparisons {
-        stored.bytes(&[compared.first, compared.last]);
-        stored.byte(compared.ops);
-        stored.byte(compared.except.len());
-        stored.bytes(&compared.except);
+    for (first, last) in [(0, 0), (97, 97), (255, 255), (0, 255), (0, 254), (1, 255), (1, 254)] {
+        for exceptions in [0, 1, 2, 127, 128, 255] {
+            let ops = Comparisons { range: first..=last, except: vec![first; exceptions] }.count_ops();
+            listed.insert([usize::from(first), usize::from(last), exceptions, ops]);
+        }
     }
-    stored.half(answer.cost);
+    listed
 }
 
 /// The sequences of the stored list; a class is named by its place in the list.
@@ -108,55 +117,49 @@ fn listed_stores() -> Vec<StoreCase> {
         stores.push(store);
     }
     stores.extend((0..6).map(|_| illegal_store(&mut random)));
+    let mut counting = random_store(&mut random, 20);
+    counting.count = 65;
+    counting.added.truncate(2);
+    stores.push(counting);
     stores
+}
+
+/// A store whose tables hold these masks, and are filled with a byte elsewhere.
+fn store_store(stored: &mut Stored, fill: u8, masks: &[Flags], case: &StoreCase) {
+    let answer = store_answer(case);
+    let bytes = |classes: &[Flags]| classes.iter().flat_map(packed).collect::<Vec<_>>();
+    let numbers = answer.numbers.iter().map(|number| number.unwrap_or(255) as u8).collect::<Vec<_>>();
+    let (mut after, mut tables) = (masks.to_vec(), &[][..]);
+    if let Some(luts) = &answer.luts {
+        let used = 256 * answer.held.div_ceil(8);
+        assert!(luts[used..].iter().all(|&entry| entry == 0));
+        tables = &luts[..used];
+        after.resize(after.len().max(answer.held), [false; 256]);
+        after[..answer.held].copy_from_slice(&held_classes(luts, answer.held));
+    }
+    let refusal = if answer.luts.is_some() { 0 } else { 15 };
+    stored.case(
+        2,
+        &[usize::from(fill), case.count, answer.held, refusal],
+        &[&bytes(masks), &bytes(&case.added), &numbers, &bytes(&after), tables],
+    );
 }
 
 pub fn list() -> Vec<u8> {
     let mut stored = Stored::default();
     let classes = listed_classes();
-    stored.word(classes.len());
     for class in &classes {
         store_class(&mut stored, class);
     }
-    let sequences = listed_sequences(classes.len());
-    stored.half(sequences.len());
-    for (fill, added) in sequences {
-        stored.byte(usize::from(fill));
-        stored.half(added.len());
-        let case = StoreCase { tables: vec![fill; 2048], count: 0, added: added.iter().map(|&at| classes[at]).collect() };
-        let answer = store_answer(&case);
-        for (at, number) in added.iter().zip(&answer.numbers) {
-            stored.half(*at);
-            stored.byte(number.unwrap_or(255));
-        }
-        stored.byte(answer.held);
-        store_luts(&mut stored, &answer);
+    for [first, last, exceptions, ops] in listed_ops(&classes) {
+        stored.case(1, &[first, last, exceptions, ops], &[]);
     }
-    let stores = listed_stores();
-    stored.half(stores.len());
-    for store in stores {
-        let answer = store_answer(&store);
-        stored.word(store.count);
-        stored.bytes(&store.tables);
-        stored.half(store.added.len());
-        for (class, number) in store.added.iter().zip(&answer.numbers) {
-            stored.bytes(&packed(class));
-            stored.byte(number.unwrap_or(255));
-        }
-        stored.word(answer.held);
-        stored.byte(if answer.luts.is_some() { 0 } else { 15 });
-        store_luts(&mut stored, &answer);
+    for (fill, added) in listed_sequences(classes.len()) {
+        let case = StoreCase { tables: vec![fill; 2048], count: 0, added: added.iter().map(|&at| classes[at]).collect() };
+        store_store(&mut stored, fill, &[], &case);
+    }
+    for case in listed_stores() {
+        store_store(&mut stored, 0, &held_classes(&case.tables, 64), &case);
     }
     stored.0
-}
-
-/// The tables in use, after their number; none if the store is refused.
-fn store_luts(stored: &mut Stored, answer: &StoreAnswer) {
-    let Some(luts) = &answer.luts else {
-        return;
-    };
-    let used = answer.held.div_ceil(8);
-    assert!(luts[256 * used..].iter().all(|&entry| entry == 0));
-    stored.byte(used);
-    stored.bytes(&luts[..256 * used]);
 }

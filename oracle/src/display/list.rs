@@ -6,6 +6,7 @@ use super::Case;
 use crate::form::Stored;
 use crate::graphs::NONE;
 use crate::random::Random;
+use crate::words::packed_runs;
 
 /// State 0 leads by each byte to a state of its own: every byte is shown alone. With `width` above 1, that many bytes go together, from `first`
 /// on.
@@ -89,30 +90,19 @@ fn graphs() -> Vec<Vec<u16>> {
 }
 
 /// Words, and the text of them or a refusal.
-fn store(stored: &mut Stored, words: &[u16], text: Result<String, u8>) {
-    stored.runs(words);
-    match text {
-        Ok(text) => {
-            stored.byte(0);
-            stored.word(text.len());
-            stored.bytes(text.as_bytes());
-        }
-        Err(number) => stored.byte(usize::from(number)),
-    }
+fn store(stored: &mut Stored, kind: usize, words: &[u16], text: Result<String, u8>) {
+    let refusal = text.as_ref().err().copied().unwrap_or(0);
+    stored.case(kind, &[usize::from(refusal)], &[&packed_runs(words), text.unwrap_or_default().as_bytes()]);
 }
 
 pub fn list() -> Vec<u8> {
     let mut stored = Stored::default();
-    let graphs = graphs();
-    stored.word(graphs.len());
-    for graph in graphs {
+    for graph in graphs() {
         let case = Case { graph };
-        store(&mut stored, &case.graph, case.text());
+        store(&mut stored, 0, &case.graph, case.text());
     }
-    let conflicts = conflicts();
-    stored.word(conflicts.len());
-    for (words, line) in conflicts {
-        store(&mut stored, &words, line);
+    for (words, line) in conflicts() {
+        store(&mut stored, 1, &words, line);
     }
     stored.0
 }

@@ -9,17 +9,8 @@ use crate::display::{damaged, free_graph, some_graph};
 use crate::form::Stored;
 use crate::graphs::{self, NONE};
 use crate::random::Random;
-use crate::readings::text_for_graph;
-use crate::words::runs;
-
-fn store_store(stored: &mut Stored, store: &Store) {
-    stored.byte(usize::from(store.fill));
-    stored.byte(store.classes.len());
-    for class in &store.classes {
-        stored.bytes(&packed(class));
-    }
-    stored.word(store.count);
-}
+use crate::readings::{reading_number, text_for_graph};
+use crate::words::{packed_runs, runs};
 
 /// A run: with the store before or after planning, so many words of the plan, and one of them changed.
 struct Attempt {
@@ -59,45 +50,39 @@ impl Planning {
     }
 }
 
-fn store_case(stored: &mut Stored, random: &mut Random, case: &Planning) {
+/// Planning: the kind is 0, or 1, 2, 3 for refusal 12, 14, 15. The plan buffer is given whole, as it is afterwards; `fill` is what it held.
+fn store_case(stored: &mut Stored, random: &mut Random, fill: u16, case: &Planning) {
     let Planning { graph, store, buffer, texts } = case;
-    stored.runs(graph);
-    store_store(stored, store);
-    stored.word(*buffer);
-    let planned = match plan(graph, store, *buffer) {
-        Ok(planned) => planned,
-        Err(number) => {
-            stored.byte(usize::from(number));
-            return;
-        }
-    };
-    stored.byte(0);
-    stored.runs(&planned.words);
-    let added = &planned.held[store.count..];
-    stored.byte(added.len());
-    for class in added {
-        stored.bytes(&packed(class));
+    let planned = plan(graph, store, *buffer);
+    let kind = [0, 12, 14, 15].iter().position(|&number| number == planned.as_ref().err().copied().unwrap_or(0));
+    let mut after = store.clone();
+    let mut out = Vec::new();
+    if let Ok(planned) = &planned {
+        // the masks that were held keep their places, and so do classes behind them that no count covers
+        after.count = planned.held.len();
+        after.classes = [&planned.held[..], store.classes.get(planned.held.len()..).unwrap_or_default()].concat();
+        out = planned.words.clone();
     }
-    let after = Store { fill: store.fill, count: planned.held.len(), classes: planned.held.clone() };
-    let attempts = attempts(random, graph, &planned.words, texts);
-    stored.half(attempts.len());
-    for Attempt { after: grown, length, change, text } in attempts {
-        stored.byte(usize::from(grown));
-        stored.half(length);
-        let (at, value) = change.unwrap_or((65_535, 0));
-        stored.half(at);
-        stored.half(usize::from(value));
-        stored.half(text.len());
-        stored.bytes(&text);
+    out.resize(*buffer, fill);
+    let masks = |store: &Store| store.classes.iter().take(64).flat_map(packed).collect::<Vec<_>>();
+    stored.case(
+        kind.expect("12, 14 or 15"),
+        &[usize::from(fill), usize::from(store.fill), store.count, after.count],
+        &[&packed_runs(graph), &masks(store), &masks(&after), &packed_runs(&out)],
+    );
+    let Ok(planned) = planned else {
+        return;
+    };
+    for Attempt { after: grown, length, change, text } in attempts(random, graph, &planned.words, texts) {
         let mut given = planned.words[..length].to_vec();
         if let Some((at, value)) = change {
             given[at] = value;
         }
         let outcome = run(graph, if grown { &after } else { store }, &given, &text);
-        stored.byte(usize::from(outcome.err().unwrap_or(0)));
-        let (leaf, end) = outcome.ok().flatten().unwrap_or((65_535, 0));
-        stored.half(leaf);
-        stored.half(end);
+        let (at, value) = change.unwrap_or((65_535, 0));
+        let refusal = usize::from(outcome.err().unwrap_or(0));
+        let numbers = [usize::from(grown), length, at, usize::from(value), refusal, reading_number(outcome.ok().flatten())];
+        stored.case(if refusal == 0 { 4 } else { 5 }, &numbers, &[&text]);
     }
 }
 
@@ -168,9 +153,13 @@ pub fn list(images: &[(Vec<u16>, Vec<u8>)]) -> Vec<u8> {
         cases.push(Planning::new(graph, store, 3 * states + random.below(3)));
     }
     shaped(images, &mut cases);
-    stored.word(cases.len());
-    for case in &cases {
-        store_case(&mut stored, &mut random, case);
+    // two refusals at once: the first of 12, 14 and 15 is told
+    let counting = Store { count: 65, ..empty };
+    for (graph, buffer) in [(vec![1, 0], 3), (needing(1), 2)] {
+        cases.push(Planning::new(graph, counting.clone(), buffer));
+    }
+    for (number, case) in cases.iter().enumerate() {
+        store_case(&mut stored, &mut random, (20_011 * number % 65_521) as u16, case);
     }
     stored.0
 }

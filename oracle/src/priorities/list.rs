@@ -4,58 +4,45 @@ use super::cases::{damaged, numbered, random_tree, Node};
 use super::{Case, ALTERNATION, CAPTURE, CONCAT, EMPTY, LITERAL, LOOK};
 use crate::form::Stored;
 use crate::random::Random;
+use crate::words::packed_runs;
 
 fn literal(bytes: &[u8]) -> Case {
     Case { tree: vec![LITERAL, 0, bytes.len() as u32, 0, 0, 0], bytes: bytes.to_vec() }
 }
 
-/// Half the original's priority of a literal.
-fn half_priority(bytes: &[u8]) -> usize {
-    let value = literal(bytes).outcome().priority.expect("a literal");
-    assert_eq!(value % 2, 0);
-    value as usize / 2
+/// The original's priority of a literal.
+fn priority(bytes: &[u8]) -> usize {
+    literal(bytes).outcome().priority.expect("a literal") as usize
 }
 
-/// Two bits for each string of two bytes, asked for behind C3 A9: its code points less one, or 2 if it is ill-formed.
-fn store_pairs(stored: &mut Stored) {
-    let mut codes = vec![0; 16_384];
-    for pair in 0..=u16::MAX {
-        let [x, y] = pair.to_be_bytes();
-        let behind = half_priority(&[0xC3, 0xA9, x, y]);
-        let code = behind - 2;
-        assert!(code <= 2);
-        assert_eq!(half_priority(&[x, y]), if code == 0 { 1 } else { 2 });
-        codes[usize::from(pair) / 4] |= (code as u8) << (2 * (pair % 4));
-    }
-    stored.bytes(&codes);
-}
-
-/// A bit for each string: 1 if the original counts it as one code point.
-fn store_single(stored: &mut Stored, strings: impl Iterator<Item = Vec<u8>>) {
-    let mut bits = Vec::new();
-    for (at, string) in strings.enumerate() {
-        let half = half_priority(&string);
-        assert!(half == 1 || half == string.len());
-        if at % 8 == 0 {
-            bits.push(0);
-        }
-        *bits.last_mut().expect("a byte") |= u8::from(half == 1) << (at % 8);
-    }
-    stored.bytes(&bits);
+/// 256 literals: a string with each byte at one place. The original's priorities of them, in runs.
+fn store_row(stored: &mut Stored, string: &[u8], place: usize) {
+    let priorities = (0..=255).map(|byte| {
+        let mut string = string.to_vec();
+        string[place] = byte;
+        priority(&string) as u16
+    });
+    stored.case(0, &[place], &[string, &packed_runs(&priorities.collect::<Vec<_>>())]);
 }
 
 const EDGES: [u8; 4] = [0x7F, 0x80, 0xBF, 0xC0];
 
-fn threes() -> impl Iterator<Item = Vec<u8>> {
-    (0xE0..=0xEF).flat_map(|lead| (0..=255).flat_map(move |second| EDGES.map(|third| vec![lead, second, third])))
-}
-
-fn fours() -> impl Iterator<Item = Vec<u8>> {
-    let thirds = EDGES.into_iter().flat_map(|third| EDGES.map(|fourth| [third, fourth])).collect::<Vec<_>>();
-    (0xF0..=0xF7).flat_map(move |lead| {
-        let thirds = thirds.clone();
-        (0..=255).flat_map(move |second| thirds.clone().into_iter().map(move |[third, fourth]| vec![lead, second, third, fourth]))
-    })
+/// Every string of two bytes, alone and behind a code point; those of three and four bytes whose last bytes stand at an edge.
+fn store_rows(stored: &mut Stored) {
+    for lead in 0..=255 {
+        store_row(stored, &[lead, 0], 1);
+        store_row(stored, &[0xC3, 0xA9, lead, 0], 3);
+    }
+    for last in EDGES {
+        for lead in 0xE0..=0xEF {
+            store_row(stored, &[lead, 0, last], 1);
+        }
+        for lead in 0xF0..=0xF7 {
+            for third in EDGES {
+                store_row(stored, &[lead, 0, third, last], 1);
+            }
+        }
+    }
 }
 
 /// Longer strings: parts of one to four bytes behind each other, some cut short or overlong.
@@ -146,7 +133,7 @@ fn limits() -> Vec<Node> {
         Node::repetition(u32::MAX, 0, class()),
         // beyond 64 bits
         Node::repetition(u32::MAX, 0, Node::repetition(u32::MAX, 0, Node::repetition(u32::MAX, 0, class()))),
-        // document 01's K11 and K12
+        // K11 and K12
         Node::repetition(3, 0, class()),
         Node::repetition(0, 0, class()),
     ];
@@ -213,39 +200,28 @@ fn broken_trees() -> Vec<Case> {
         trees.push(sound.concat()[..length].to_vec());
     }
     trees.push([sound.concat(), vec![0]].concat());
+    // a root with a next, and nothing else amiss
+    trees.push([[2, 0, 0, 0, 0, 0], [2, 0, 0, 0, 0, 1]].concat());
     trees.into_iter().map(|tree| Case { tree, bytes: bytes.clone() }).collect()
 }
 
-/// A record is a byte whose bit j says that its word j follows; the other words are 0.
 fn store_tree(stored: &mut Stored, case: &Case) {
-    stored.half(case.tree.len());
-    for record in case.tree.chunks(6) {
-        let given = record.iter().enumerate().filter(|(_, word)| **word != 0);
-        stored.byte(given.clone().map(|(j, _)| 1 << j).sum());
-        for (_, word) in given {
-            stored.word(*word as usize);
-        }
-    }
-    stored.half(case.bytes.len());
-    stored.bytes(&case.bytes);
     let answer = case.outcome();
-    stored.byte(usize::from(answer.priority.err().unwrap_or(0)));
-    stored.word(answer.priority.unwrap_or(0) as usize);
-    stored.byte(usize::from(answer.greedy.err().unwrap_or(0)));
-    stored.byte(usize::from(answer.greedy.unwrap_or(false)));
+    let numbers = [
+        usize::from(answer.priority.err().unwrap_or(0)),
+        answer.priority.unwrap_or(0) as usize,
+        usize::from(answer.greedy.err().unwrap_or(0)),
+        usize::from(answer.greedy.unwrap_or(false)),
+    ];
+    let tree = case.tree.iter().flat_map(|word| word.to_le_bytes()).collect::<Vec<_>>();
+    stored.case(2, &numbers, &[&tree, &case.bytes]);
 }
 
 pub fn list() -> Vec<u8> {
     let mut stored = Stored::default();
-    store_pairs(&mut stored);
-    store_single(&mut stored, threes());
-    store_single(&mut stored, fours());
-    let strings = listed_strings();
-    stored.word(strings.len());
-    for string in &strings {
-        stored.byte(string.len());
-        stored.bytes(string);
-        stored.byte(half_priority(string));
+    store_rows(&mut stored);
+    for string in listed_strings() {
+        stored.case(1, &[priority(&string)], &[&string]);
     }
     let mut random = Random::new(5);
     let mut trees = broken_trees();
@@ -257,7 +233,6 @@ pub fn list() -> Vec<u8> {
         let tree = random_tree(&mut random, 8);
         trees.push(damaged(&mut random, tree));
     }
-    stored.word(trees.len());
     for tree in &trees {
         store_tree(&mut stored, tree);
     }

@@ -10,42 +10,35 @@ use crate::random::Random;
 use crate::tables::cases::{delayed, layered, many_rounds, wild};
 use crate::tables::{checked, State, Table};
 use crate::walks::{clean, read_graph, scan, Piece, Reading};
-use crate::words::runs;
+use crate::words::{packed_runs, runs};
 
-fn store_reading(stored: &mut Stored, reading: Reading) {
+/// A reading as one number: the leaf, 65,535 for none, and above it the end, 0 with none.
+pub fn reading_number(reading: Reading) -> usize {
     let (leaf, end) = reading.unwrap_or((65_535, 0));
-    stored.half(leaf);
-    stored.half(end);
+    leaf + 65_536 * end
 }
 
-/// Each piece: its leaf, 255 for a gap, and its length.
-fn store_pieces(stored: &mut Stored, pieces: &[Piece]) {
-    stored.half(pieces.len());
-    for (leaf, start, end) in pieces {
-        stored.byte(leaf.unwrap_or(255));
-        stored.half(end - start);
-    }
+/// The pieces as a list of entries has them: start, end and leaf, 65,535 for a gap, a word each.
+fn entries(pieces: &[Piece]) -> Vec<u8> {
+    let words = pieces.iter().flat_map(|(leaf, start, end)| [*start, *end, leaf.unwrap_or(65_535)]);
+    words.flat_map(|word| (word as u32).to_le_bytes()).collect()
 }
 
-fn store_text(stored: &mut Stored, text: &[u8]) {
-    stored.half(text.len());
-    stored.bytes(text);
-}
-
-/// A table, its graph, and what they read in these texts.
-fn store_table(stored: &mut Stored, table: &[u16], texts: &[Vec<u8>]) {
+/// A table, both buffers after its build, and what they read in these texts.
+fn store_table(stored: &mut Stored, number: usize, table: &[u16], texts: &[Vec<u8>]) {
     let built = built(table);
     let is_clean = clean(&checked(table).expect("a legal table"), built.errors);
-    stored.runs(table);
-    stored.runs(&built.graph);
-    stored.byte(usize::from(is_clean));
-    stored.half(texts.len());
+    let fill = (1 + 20_011 * number % 65_521) as u16;
+    let (mut graph, mut errors) = (built.graph.clone(), built.error_words.clone());
+    graph.resize(2 + 258 * usize::from(table[0]), 0);
+    graph.resize(graph.len() + number % 5, fill);
+    errors.resize(errors.len() + number % 7, fill);
+    let numbers = [usize::from(is_clean), usize::from(fill), built.states, built.root, built.errors, built.error_words.len()];
+    stored.case(0, &numbers, &[&packed_runs(table), &packed_runs(&graph), &packed_runs(&errors)]);
     for text in texts {
         let read = read(table, &built.graph, is_clean, text);
-        store_text(stored, text);
-        store_reading(stored, read.by_table);
-        store_reading(stored, read.by_graph);
-        store_pieces(stored, &read.pieces);
+        let numbers = [reading_number(read.by_table), reading_number(read.by_graph)];
+        stored.case(2, &numbers, &[text, &entries(&read.pieces)]);
     }
 }
 
@@ -108,14 +101,11 @@ pub fn list(images: &[(Vec<u16>, Vec<u8>)]) -> Vec<u8> {
         texts.extend((0..8).map(|at| text_for_table(&mut random, &table, 4 + 4 * at)));
         tables.push((table, texts));
     }
-    stored.word(tables.len());
-    for (table, texts) in &tables {
-        store_table(&mut stored, table, texts);
+    for (number, (table, texts)) in tables.iter().enumerate() {
+        store_table(&mut stored, number, table, texts);
     }
-    let graphs = listed_graphs(&mut random);
-    stored.word(graphs.len());
-    for graph in &graphs {
-        store_graph(&mut stored, &mut random, graph);
+    for graph in listed_graphs(&mut random) {
+        store_graph(&mut stored, &mut random, &graph);
     }
     stored.0
 }
@@ -150,23 +140,18 @@ fn listed_graphs(random: &mut Random) -> Vec<Vec<u16>> {
 }
 
 fn store_graph(stored: &mut Stored, random: &mut Random, graph: &[u16]) {
-    stored.runs(graph);
-    if !graphs::legal(graph) {
-        stored.byte(12);
+    let refusal = if graphs::legal(graph) { 0 } else { 12 };
+    stored.case(1, &[refusal], &[&packed_runs(graph)]);
+    if refusal != 0 {
         return;
     }
-    stored.byte(0);
     let texts = [0, 1, 4, 9, 20].map(|longest| text_for_graph(random, graph, longest));
-    stored.half(texts.len());
     for (at, text) in texts.iter().enumerate() {
-        store_text(stored, text);
-        store_reading(stored, read_graph(graph, text));
         // from the start, inside, at the end, past it
         let offset = [0, text.len() / 2, text.len(), text.len() + 1, 0][at];
-        stored.word(offset);
-        stored.byte(if offset > text.len() { 14 } else { 0 });
-        if offset <= text.len() {
-            store_pieces(stored, &scan(graph, text, offset));
-        }
+        let past = offset > text.len();
+        let pieces = if past { Vec::new() } else { scan(graph, text, offset) };
+        let numbers = [reading_number(read_graph(graph, text)), offset, if past { 14 } else { 0 }];
+        stored.case(3, &numbers, &[text, &entries(&pieces)]);
     }
 }

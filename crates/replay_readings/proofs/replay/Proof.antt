@@ -1,53 +1,55 @@
--- `replay` is safe and ends: a call keeps the length of a buffer that is lent to it. Assumes nothing.
+-- `replay` is safe and ends. The measure is what is left of the list. Assumes nothing.
 use borrow.Author.Needs.{needs}
+use Prim.Native.Nat.{_-_}
+use lib.ListN.{length}
 use Rattle.replay_readings.proofs.replay.Statement.{statement}
 use Rattle.replay_readings.proofs.replay.Tie as tie
 
-all-requires : tie.Need-all-requires
-all-requires c κs = search needs
+abbrev Inv-loop : tie.InvT-loop
+Inv-loop list w₀ w = Unit {0}
 
-tell-tables-requires : tie.Need-tell-tables-requires
-tell-tables-requires c κs = search needs
+abbrev μ-loop : tie.MeasureT-loop
+μ-loop list w₀ w = length list - w .at
 
-all-requires-2 : tie.Need-all-requires-2
-all-requires-2 c κs = search needs
+begun-requires : tie.Need-begun-requires Inv-loop μ-loop
+begun-requires c κs = search needs
 
-tell-graphs-requires : tie.Need-tell-graphs-requires
-tell-graphs-requires c κs = search needs
+loop-holds : tie.Need-loop-holds Inv-loop μ-loop
+loop-holds c = search needs
 
-tell-end-requires : tie.Need-tell-end-requires
-tell-end-requires c κs = search needs
+host-requires : tie.Need-host-requires Inv-loop μ-loop
+host-requires c κs = search needs
 
-same-length : tie.Need-same-length
-same-length c = c .before .before .before .before .before .before .before .before .before .before .before .before .before .before .before .before .before .before .before .before .all .kept .1 .1 .0
+next-requires : tie.Need-next-requires Inv-loop μ-loop
+next-requires c κs = search needs
 
-same-length-2 : tie.Need-same-length-2
-same-length-2 c = search needs
+alike-requires : tie.Need-alike-requires Inv-loop μ-loop
+alike-requires c κs = search needs
 
-same-length-3 : tie.Need-same-length-3
-same-length-3 c = search needs
+noted-requires : tie.Need-noted-requires Inv-loop μ-loop
+noted-requires c κs = search needs
 
-same-length-4 : tie.Need-same-length-4
-same-length-4 c = search needs
+loop-less : tie.Need-loop-less Inv-loop μ-loop
+loop-less c = search needs
 
-same-length-5 : tie.Need-same-length-5
-same-length-5 c = search needs
+loop-again : tie.Need-loop-again Inv-loop μ-loop
+loop-again c = search needs
 
-returns : tie.Need-returns
+returns : tie.Need-returns Inv-loop μ-loop
 returns c = search needs
 
 pub replay-spec : {M : Type 1} → statement M
 replay-spec =
     tie.close
     (tie.spec
-    all-requires
-    tell-tables-requires
-    all-requires-2
-    tell-graphs-requires
-    tell-end-requires
-    same-length
-    same-length-2
-    same-length-3
-    same-length-4
-    same-length-5
+    Inv-loop
+    μ-loop
+    begun-requires
+    loop-holds
+    host-requires
+    next-requires
+    alike-requires
+    noted-requires
+    loop-less
+    loop-again
     returns)

@@ -1,16 +1,14 @@
 -- `lists::into_buffers` is safe and ends. The measure is what is left of the calls. Assumes nothing.
 use borrow.Author.Needs.{needs}
 use Prim.Native.Nat.{_-_}
-use lib.ListN.{length}
-use mathlib.Core.Path.{_≡_}
 use Rattle.replay_plans.proofs.lists.into_buffers.Statement.{statement}
 use Rattle.replay_plans.proofs.lists.into_buffers.Tie as tie
 
 abbrev Inv-loop : tie.InvT-loop
-Inv-loop graph plan store text walked₀ planned₀ most past spot₀ k₀ walked planned spot k = (length walked ≡ length walked₀) × (length planned ≡ length planned₀)
+Inv-loop graph plan store text size most spot₀ k₀ spot k = Unit {0}
 
 abbrev μ-loop : tie.MeasureT-loop
-μ-loop graph plan store text walked₀ planned₀ most past spot₀ k₀ walked planned spot k = most - k
+μ-loop graph plan store text size most spot₀ k₀ spot k = most - k
 
 add-most : tie.Need-add-most Inv-loop μ-loop
 add-most c = search needs
@@ -33,29 +31,20 @@ loop-less c = search needs
 loop-again : tie.Need-loop-again Inv-loop μ-loop
 loop-again c = search needs
 
+place-requires : tie.Need-place-requires Inv-loop μ-loop
+place-requires c κs = search needs
+
 refuses-requires : tie.Need-refuses-requires Inv-loop μ-loop
 refuses-requires c κs = search needs
+
+past-requires : tie.Need-past-requires Inv-loop μ-loop
+past-requires c κs = search needs
 
 refuses-requires-2 : tie.Need-refuses-requires-2 Inv-loop μ-loop
 refuses-requires-2 c κs = search needs
 
-has-ended-requires : tie.Need-has-ended-requires Inv-loop μ-loop
-has-ended-requires c κs = search needs
-
-same-length : tie.Need-same-length Inv-loop μ-loop
-same-length c = search needs
-
-same-length-2 : tie.Need-same-length-2 Inv-loop μ-loop
-same-length-2 c = search needs
-
 returns : tie.Need-returns Inv-loop μ-loop
 returns c = search needs
-
-same-length-3 : tie.Need-same-length-3 Inv-loop μ-loop
-same-length-3 c = search needs
-
-same-length-4 : tie.Need-same-length-4 Inv-loop μ-loop
-same-length-4 c = search needs
 
 returns-2 : tie.Need-returns-2 Inv-loop μ-loop
 returns-2 c = search needs
@@ -73,12 +62,9 @@ into-buffers-spec =
     add-k
     loop-less
     loop-again
+    place-requires
     refuses-requires
+    past-requires
     refuses-requires-2
-    has-ended-requires
-    same-length
-    same-length-2
     returns
-    same-length-3
-    same-length-4
     returns-2)
