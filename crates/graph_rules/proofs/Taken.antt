@@ -1,4 +1,4 @@
--- What graph words have that refusal 12 takes. Assumes nothing.
+-- What well-formed graph words have (refusal 12). Assumes nothing.
 use mathlib.Core.Path.{_≡_, sym, subst, _∙_}
 use mathlib.Core.Bool.{true, _||_}
 use mathlib.Core.List.{List, []}

@@ -124,7 +124,7 @@ module _ (m n : ℕ) (leaves : m ≤ noLeaf) (states : n ≤ mostStates) (g : Gr
       let e = f .few in
       omega arith
 
-  -- ---- refusal 12 takes them
+  -- ---- they are well-formed (refusal 12)
 
   abbrev count : ℕ
   count = length (g .states)

@@ -1,4 +1,4 @@
--- A buffer that is written from the front, or from a place on: what is written, and the rest as found. `sets` (lib.Seq) stores a run of elements one
+-- A buffer that is written from the front, or from a place on: what is written, and the rest unchanged. `sets` (lib.Seq) stores a run of elements one
 -- by one; those that pass the end are not stored. Assumes nothing.
 use mathlib.Core.Path.{_≡_, refl, sym, ap, _∙_}
 use mathlib.Core.List.{List, [], _∷_, _++_, append-assoc}
@@ -25,13 +25,13 @@ module _ {A : Type 0} where
       let e : set o at x ≡ o = set-out o at x h in
       ap (λ (l : List A). sets l (suc at) t) e ∙ sets-past o (suc at) t (omega arith)
 
-  -- from the front, where there is room: the run, and the rest as found
+  -- from the front, where there is room: the run, and the rest unchanged
   pub sets-front : (o t : List A) → length t ≤ length o → sets o 0 t ≡ t ++ drop (length t) o
   sets-front o t h =
       let e : 0 + length t ≡ length t = omega arith in
       sets-eq t o 0 (omega arith) ∙ ap (λ (k : ℕ). t ++ drop k o) e
 
--- ---- a buffer whose first elements are `text`, the rest being as found
+-- ---- a buffer whose first elements are `text`, the rest being unchanged
 
 module _ {A : Type 0} where
   pub record Filled (found text out : List A) : Type 0 where

@@ -77,7 +77,7 @@ module _ (m n : ℕ) (leaves : m ≤ noLeaf) (states : n ≤ mostStates) (g : Gr
         ∙ ⊎-elim (λ l. word i l ∙ sym (front i l)) (λ l. zeros-are i l h′ ∙ sym (back i l h′)) (lt-or-le i (graphSize count))) in
         sym (take-append-drop (graphSize n) w) ∙ ap (λ (x : List ℕ). x ++ drop (graphSize n) w) same
 
--- refusal 12 takes a buffer
+-- a buffer is well-formed
 pub buffer-taken : (m n : ℕ) → m ≤ noLeaf → n ≤ mostStates → (g : Graph) → Fits m n g → (rest : List ℕ) → graphFits (graphBuffer n g ++ rest) ≡ true
 unfolding graphBuffer
 buffer-taken m n leaves states g f rest =

@@ -1,4 +1,4 @@
--- The graph that words hold which refusal 12 takes, and that only their count, root and targets decide whether it takes them. Assumes nothing.
+-- The graph that well-formed words hold, and that only their count, root and targets decide whether they are well-formed. Assumes nothing.
 use mathlib.Core.Path.{_≡_, refl, sym, ap, subst, _∙_}
 use mathlib.Core.Bool.{true, false, _||_}
 use mathlib.Core.List.{List, []}

@@ -1,4 +1,4 @@
--- The words from a up to i are 0, and the others as found. The measure is the words that are left. Assumes nothing.
+-- The words from a up to i are 0, and the others unchanged. The measure is the words that are left. Assumes nothing.
 use mathlib.Core.Path.{_≡_, refl, sym, ap, _∙_}
 use mathlib.Core.List.{List}
 use Prim.Native.Nat.{ℕ, _+_, _-_, _≤_}

@@ -1,4 +1,4 @@
--- The words from i up to k have the value, and the others are as found. The measure is the words that are left. Assumes nothing.
+-- The words from i up to k have the value, and the others are unchanged. The measure is the words that are left. Assumes nothing.
 use mathlib.Core.Path.{_≡_, refl, sym, ap, _∙_}
 use mathlib.Core.List.{List}
 use Prim.Native.Nat.{ℕ, _+_, _-_, _≤_}
