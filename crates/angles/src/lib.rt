@@ -15,7 +15,7 @@ mod text;
 // The greatest angle, in hundredths.
 const LIMIT: u32 = 18000;
 
-#[derive(Drop)]
+#[derive(Clone, Copy)]
 pub enum Angle {
     Hundredths(i32),
     Missing,
@@ -23,7 +23,7 @@ pub enum Angle {
 }
 
 // A text of `length` bytes, and zeros after it. A length of 0: there is no text.
-#[derive(Drop)]
+#[derive(Clone, Copy)]
 pub struct Written {
     pub bytes: [u8; 7],
     pub length: usize,

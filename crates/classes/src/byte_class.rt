@@ -7,7 +7,7 @@ ghost use Rattle.classes.specs.Classes.{ranges, comparisons, holds, some_holds, 
 ghost use Rattle.classes.specs.ClassAnswers.{as_byte_class, as_comparisons, listed};
 
 // A class as its maximal ranges, ascending: range i is first[i]..=last[i]. Entries from `count` on are 0.
-#[derive(Drop)]
+#[derive(Clone, Copy)]
 pub struct ByteClass {
     pub first: [u8; 128],
     pub last: [u8; 128],
@@ -16,7 +16,7 @@ pub struct ByteClass {
 
 // The comparisons of a class, ascending: comparison i holds of the bytes first[i]..=last[i] but its holes[i] exceptions. The exceptions
 // stand one after another in `except`, those of comparison 0 first. Entries that are not in use are 0.
-#[derive(Drop)]
+#[derive(Clone, Copy)]
 pub struct Comparisons {
     pub first: [u8; 128],
     pub last: [u8; 128],

@@ -17,7 +17,7 @@ use words::table::{ROW, leaves, row_word, start, states};
 use words::{END, NONE, STATES};
 
 // Clean; or the rule, 1 to 3, that the table breaks first, and the lowest state where, NONE if the breach belongs to no state; or 1 to 7.
-#[derive(Drop)]
+#[derive(Clone, Copy)]
 pub enum Verdict {
     Clean,
     Breaks(u16, u16),

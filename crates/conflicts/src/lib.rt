@@ -50,7 +50,7 @@ fn tie_length(table: &[u16], i: usize) -> usize
 }
 
 // A number of conflicts, and of the words that tell them.
-#[derive(Drop)]
+#[derive(Clone, Copy)]
 pub struct TieWords {
     pub errors: usize,
     pub words: usize,
@@ -141,7 +141,7 @@ fn put_in(order: &mut [u16; STATES], count: usize, p: usize, v: u16)
 }
 
 // The records where ties begin, the first `count` of them.
-#[derive(Drop)]
+#[derive(Clone, Copy)]
 struct TieOrder {
     order: [u16; STATES],
     count: usize,

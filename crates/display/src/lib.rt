@@ -16,7 +16,7 @@ pub mod graph;
 mod state;
 
 // How many bytes were written; or the number of a refusal, the buffer being unchanged.
-#[derive(Drop)]
+#[derive(Clone, Copy)]
 pub enum Shown {
     Bytes(usize),
     Refused(u8),

@@ -11,7 +11,7 @@ ghost use Rattle.graph_rules.specs.Layout.{most_states, graph_size};
 use words::{NONE, STATES};
 
 // How many states the graph has, its root, how many errors there are, and how many words they take.
-#[derive(Drop)]
+#[derive(Clone, Copy)]
 pub struct Counts {
     pub states: usize,
     pub root: usize,
@@ -19,7 +19,7 @@ pub struct Counts {
     pub words: usize,
 }
 
-#[derive(Drop)]
+#[derive(Clone, Copy)]
 pub enum BuildAnswer {
     Built(Counts),
     Refused(u8),

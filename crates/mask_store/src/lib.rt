@@ -21,21 +21,21 @@ pub const SIZE: usize = TABLES * TABLE_SIZE;
 pub const MASKS: usize = TABLES * TABLE_MASKS;
 
 // The tables stand one after another: entry 256 t + b is that of byte b in table t. Bits of masks from `count` on mean nothing.
-#[derive(Drop)]
+#[derive(Clone, Copy)]
 pub struct MaskStore {
     pub tables: [u8; SIZE],
     pub count: usize,
 }
 
 // The number of a class, or 15.
-#[derive(Drop)]
+#[derive(Clone, Copy)]
 pub enum AddAnswer {
     Number(usize),
     Refused(u8),
 }
 
 // The answer to a class that was to be added, and the store after it.
-#[derive(Drop)]
+#[derive(Clone, Copy)]
 pub struct Added {
     pub answer: AddAnswer,
     pub store: MaskStore,

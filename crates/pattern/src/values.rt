@@ -5,7 +5,7 @@ ghost use Rattle.pattern.specs.Priced.{capped, times, plus, lesser};
 // The greatest priority.
 const LIMIT: u64 = 4294967295;
 
-#[derive(Drop)]
+#[derive(Clone, Copy)]
 pub(crate) enum Priced {
     Value(u32),
     Over,

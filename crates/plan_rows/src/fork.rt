@@ -7,7 +7,7 @@ use crate::way::EDGES;
 
 // How many states the byte edges lead to, whether these are so many that a table is used, whether one of them is the state itself, and the two
 // lowest (0 where there is none).
-#[derive(Drop)]
+#[derive(Clone, Copy)]
 pub struct Fork {
     pub count: usize,
     pub table: bool,

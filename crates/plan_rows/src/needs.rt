@@ -13,7 +13,7 @@ use mask_store::{AddAnswer, MaskStore};
 use plan_rules::Way;
 
 // Whether a store takes classes, and the store with them; unchanged if not.
-#[derive(Drop)]
+#[derive(Clone, Copy)]
 pub struct Grown {
     pub taken: bool,
     pub store: MaskStore,

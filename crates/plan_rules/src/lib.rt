@@ -2,7 +2,7 @@
 // `plan_rows`, `runner` and `plans`; here is only the type that definitions and code share.
 
 // How a byte is tested for an edge where no table is used: the self edge is run before, by its mask; another by comparisons or by a mask.
-#[derive(Drop)]
+#[derive(Clone, Copy)]
 pub enum Way {
     BySelf,
     ByTests,

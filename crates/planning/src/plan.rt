@@ -6,14 +6,14 @@ ghost use Rattle.planning.specs.Plan.{refused_with, plan_call};
 use mask_store::MaskStore;
 
 // How many classes the store gained, or a refusal.
-#[derive(Drop)]
+#[derive(Clone, Copy)]
 pub enum PlanAnswer {
     Planned(usize),
     Refused(u8),
 }
 
 // The answer, and the store after it.
-#[derive(Drop)]
+#[derive(Clone, Copy)]
 pub struct Planning {
     pub answer: PlanAnswer,
     pub store: MaskStore,

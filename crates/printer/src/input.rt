@@ -6,7 +6,7 @@ use crate::moved;
 use crate::moved::Step;
 
 // How many bytes were read, to the end of the input or of the room; or a read has failed, and errno says why.
-#[derive(Drop)]
+#[derive(Clone, Copy)]
 pub enum Read {
     Bytes(usize),
     Broken,

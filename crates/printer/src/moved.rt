@@ -4,7 +4,7 @@ ghost use Rattle.printer.specs.Moved.{StepWithin};
 
 // So many bytes were moved, none if a signal came before the first; the input has ended, or the output takes nothing; or the call has failed,
 // and errno says why.
-#[derive(Drop)]
+#[derive(Clone, Copy)]
 pub enum Step {
     Moved(usize),
     End,

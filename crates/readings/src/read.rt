@@ -9,7 +9,7 @@ use words::graph::NO_LEAF;
 use words::{END, NONE};
 
 // A leaf and where its match ends, or none; or the number of a refusal.
-#[derive(Drop)]
+#[derive(Clone, Copy)]
 pub enum Read {
     Found(usize, usize),
     Nothing,
@@ -17,7 +17,7 @@ pub enum Read {
 }
 
 // The last record of a walk; NO_LEAF if there is none. Two words and no flag beside them, so that a walk holds it in registers.
-#[derive(Drop)]
+#[derive(Clone, Copy)]
 pub struct Record {
     pub leaf: usize,
     pub end: usize,

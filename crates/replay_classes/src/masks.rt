@@ -6,7 +6,7 @@ use vectors::cases::{number, part};
 use vectors::parts::{written, zeros};
 
 // A store to which classes are added, and whether all were given the numbers that are said.
-#[derive(Drop)]
+#[derive(Clone, Copy)]
 struct Growing {
     pub store: MaskStore,
     pub same: bool,

@@ -87,7 +87,7 @@ pub(crate) fn all_refuse(
 // ---- a text that is listed
 
 // Between two calls: the scan, and whether all was alike so far.
-#[derive(Drop)]
+#[derive(Clone, Copy)]
 struct Spot {
     pub scan: Scan,
     pub same: bool,

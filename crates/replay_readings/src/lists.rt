@@ -18,7 +18,7 @@ fn large_room() -> [usize; 16384] {
 }
 
 // Between two calls: how many entries there were, the scan, and whether all was alike so far.
-#[derive(Drop)]
+#[derive(Clone, Copy)]
 struct Spot {
     pub done: usize,
     pub scan: Scan,

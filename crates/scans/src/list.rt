@@ -6,14 +6,14 @@ ghost use Rattle.scans.specs.List.{entry_size, leaf_word, list_from, scan_list};
 
 use crate::scan::{Entry, Place, Scan};
 
-#[derive(Drop)]
+#[derive(Clone, Copy)]
 pub enum ListAnswer {
     Listed(usize),
     Refused(u8),
 }
 
 // The number of entries, or a refusal; and the scan after them.
-#[derive(Drop)]
+#[derive(Clone, Copy)]
 pub struct Listed {
     pub answer: ListAnswer,
     pub scan: Scan,

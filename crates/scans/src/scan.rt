@@ -9,19 +9,19 @@ ghost use Rattle.scans.specs.Scan.{fresh, gap_at, entry_of, scanned_by, scan_of,
 use readings::read::Record;
 use words::graph::NO_LEAF;
 
-#[derive(Drop)]
+#[derive(Clone, Copy)]
 pub enum Place {
     Reading(usize),
     Ended,
 }
 
-#[derive(Drop)]
+#[derive(Clone, Copy)]
 pub struct Scan {
     pub place: Place,
 }
 
 // A token (leaf, start, end) or a gap (start, end); or that the scan has ended; or the number of a refusal.
-#[derive(Drop)]
+#[derive(Clone, Copy)]
 pub enum NextAnswer {
     Token(usize, usize, usize),
     Gap(usize, usize),
@@ -30,14 +30,14 @@ pub enum NextAnswer {
 }
 
 // An answer, and the scan after it.
-#[derive(Drop)]
+#[derive(Clone, Copy)]
 pub struct Scanned {
     pub answer: NextAnswer,
     pub scan: Scan,
 }
 
 // A token or a gap that begins at a known offset: its end, and of a token the leaf.
-#[derive(Drop)]
+#[derive(Clone, Copy)]
 pub struct Entry {
     pub token: bool,
     pub leaf: usize,

@@ -37,7 +37,7 @@ pub const UNBOUNDED: u32 = 2;
 const BOTH: u32 = GREEDY + UNBOUNDED;
 
 // A record.
-#[derive(Drop)]
+#[derive(Clone, Copy)]
 pub struct Record {
     pub kind: u32,
     // where a literal's bytes begin; a repetition's min

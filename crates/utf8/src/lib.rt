@@ -6,7 +6,7 @@ ghost use Rattle.utf8.specs.Points.{points_of, low_of, high_of};
 
 pub mod widths;
 
-#[derive(Drop)]
+#[derive(Clone, Copy)]
 pub enum Points {
     Count(usize),
     IllFormed,

@@ -8,7 +8,7 @@ const UNKNOWN: usize = 15;
 
 // The place of the next case; the place of the last one of a kind below `leading`, to which those of other kinds belong; how many cases there were, how
 // many of each kind were alike and how many differ, and the number of the first that differs, from 0.
-#[derive(Drop)]
+#[derive(Clone, Copy)]
 pub struct Walk {
     pub at: usize,
     pub host: usize,

@@ -10,5 +10,5 @@ use Rattle.bits.proofs.test_bit.Tie as tie
 returns : tie.Need-returns
 returns c = ap (λ (n : ℕ). eqb n 1) (and_mask (c.args.word / 2 ^ c.args.k) 1)
 
-pub test-bit-spec : {M : Type 1} → statement M
-test-bit-spec = tie.close (tie.spec (λ c. search rules) (λ c. search rules) returns)
+pub test_bit_spec : {M : Type 1} → statement M
+test_bit_spec = tie.close (tie.spec (λ c. search rules) (λ c. search rules) returns)

@@ -10,7 +10,7 @@ use Rattle.bits.proofs.Bits.{one_shl, or_is, and_is}
 use Rattle.bits.proofs.with_bit.Statement.{statement}
 use Rattle.bits.proofs.with_bit.Tie as tie
 
-returns : tie.Need-returns
+returns : tie.Need-returns-then-flag
 returns c =
     let w = c.before.args.word in
     let k = c.before.args.k in
@@ -19,7 +19,7 @@ returns c =
     let f : true ≡ c.before.args.flag = cc in
     ap (bit_or w) (one_shl k hk) ∙ or_is w k hw hk ∙ ap (with_bit k w) f
 
-returns-2 : tie.Need-returns-2
+returns-2 : tie.Need-returns-else-flag
 returns-2 c =
     let w = c.before.args.word in
     let k = c.before.args.k in
@@ -28,6 +28,6 @@ returns-2 c =
     let f : false ≡ c.before.args.flag = cc in
     ap (λ (n : ℕ). bit_and w (255 - n)) (one_shl k hk) ∙ and_is w k hw hk ∙ ap (with_bit k w) f
 
-pub with-bit-spec : {M : Type 1} → statement M
-with-bit-spec =
+pub with_bit_spec : {M : Type 1} → statement M
+with_bit_spec =
     tie.close (tie.spec (λ c. search rules) (λ c. search rules) (λ c. search rules) (λ c. search rules) returns returns-2)

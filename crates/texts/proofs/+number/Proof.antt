@@ -37,20 +37,20 @@ number-byte-requires t c κs =
     let s = c.before.before.before.before in
     subst (Counts s.args.at) (decimal-one s.args.n (omega arith)) s.requires.1
 
-number-returns : (t : ℕ) → number-lts.Need-returns (calls t) (number_at t) number.Post
+number-returns : (t : ℕ) → number-lts.Need-returns-then-n-lt10 (calls t) (number_at t) number.Post
 number-returns t c =
     let d = c.before.before.before in
     let s = d.before.before.before.before in
     wrote_as (ap one d.digit.ensures ∙ sym (decimal-one s.args.n (omega arith))) c.before.before.byte.ensures
 
-number-same-length : (t : ℕ) → number-lts.Need-same-length (calls t) (number_at t) number.Post
+number-same-length : (t : ℕ) → number-lts.Need-shape_of-out-then-n-lt10 (calls t) (number_at t) number.Post
 number-same-length t c = wrote-length (number-returns t c)
 
 -- the whole text, where the number has more than one digit
 more : (t : ℕ) (s : number-lts.Start (calls t) (number_at t) number.Post) → 10 ≤ s.args.n → Counts s.args.at (decimal (s.args.n / 10) ++ one (digit_byte (s.args.n % 10)))
 more t s h = subst (Counts s.args.at) (decimal-more s.args.n h) s.requires.1
 
-number-number-requires : (t : ℕ) → number-lts.Need-number-requires (calls t) (number_at t) number.Post
+number-number-requires : (t : ℕ) → number-lts.Need-number-next-requires (calls t) (number_at t) number.Post
 number-number-requires t c κs =
     let s = c.before.before.before in
     (omega arith, counts-first s.args.at (decimal (s.args.n / 10)) (one (digit_byte (s.args.n % 10))) (more t s (omega arith)))
@@ -62,21 +62,21 @@ number-byte-requires-2 : (t : ℕ) → number-lts.Need-byte-requires-2 (calls t)
 number-byte-requires-2 t c κs =
     let m = c.before.before.before.before in
     let s = m.before.before.before.before in
-    counts-then s.args.at (decimal (s.args.n / 10)) (one (digit_byte (s.args.n % 10))) (more t s (omega arith)) m.number.ensures
+    counts-then s.args.at (decimal (s.args.n / 10)) (one (digit_byte (s.args.n % 10))) (more t s (omega arith)) m.number-next.ensures
 
-number-returns-2 : (t : ℕ) → number-lts.Need-returns-2 (calls t) (number_at t) number.Post
+number-returns-2 : (t : ℕ) → number-lts.Need-returns (calls t) (number_at t) number.Post
 number-returns-2 t c =
     let d = c.before.before.before in
     let m = d.before.before.before.before in
     let s = m.before.before.before.before in
-    wrote_as (ap (λ (x : ℕ). decimal (s.args.n / 10) ++ one x) d.digit2.ensures ∙ sym (decimal-more s.args.n (omega arith)))
-    (wrote_then m.number.ensures c.before.before.byte2.ensures)
+    wrote_as (ap (λ (x : ℕ). decimal (s.args.n / 10) ++ one x) d.digit-2.ensures ∙ sym (decimal-more s.args.n (omega arith)))
+    (wrote_then m.number-next.ensures c.before.before.byte-2.ensures)
 
-number-same-length-2 : (t : ℕ) → number-lts.Need-same-length-2 (calls t) (number_at t) number.Post
+number-same-length-2 : (t : ℕ) → number-lts.Need-shape_of-out (calls t) (number_at t) number.Post
 number-same-length-2 t c = wrote-length (number-returns-2 t c)
 
-pub +number-spec : {M : Type 1} → statement M
-+number-spec =
+pub +number_spec : {M : Type 1} → statement M
++number_spec =
     close
     μ-number
     λ t. number-lts.spec (calls t)

@@ -7,16 +7,16 @@ use lib.Seq.{set_out}
 use Rattle.texts.proofs.byte.Statement.{statement}
 use Rattle.texts.proofs.byte.Tie as tie
 
-stored : (c : tie.Joined1) → c.if1.out ≡ set c.before.args.out.now c.before.args.at c.before.args.b
+stored : (c : tie.Joined-at-out) → c.if-at-out.out ≡ set c.before.args.out.now c.before.args.at c.before.args.b
 stored c =
     let a = c.before.args in
-    ⊎_elim (λ w. w.1) (λ w. w.1 ∙ sym (set_out a.out.now a.at a.b w.0.left)) c.if1.branch
+    ⊎_elim (λ w. w.out-is) (λ w. w.out-is ∙ sym (set_out a.out.now a.at a.b w.if-at-out.false)) c.if-at-out.branch-raw
 
-same_length : tie.Need-same-length
+same_length : tie.Need-shape_of-out
 same_length c = ap length (stored c) ∙ simp length-set
 
 returns : tie.Need-returns
 returns c = record { buffer = stored c; place = refl }
 
-pub byte-spec : {M : Type 1} → statement M
-byte-spec = tie.close (tie.spec (λ c. search rules) (λ c. search rules) same_length returns)
+pub byte_spec : {M : Type 1} → statement M
+byte_spec = tie.close (tie.spec (λ c. search rules) (λ c. search rules) same_length returns)

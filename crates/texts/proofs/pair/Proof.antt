@@ -5,7 +5,7 @@ use Rattle.texts.proofs.pair.Statement.{statement}
 use Rattle.texts.proofs.pair.Tie as tie
 
 returns : tie.Need-returns
-returns c = wrote_then c.before.before.before.before.before.before.byte.ensures c.before.before.byte2.ensures
+returns c = wrote_then c.before.before.before.before.before.before.byte-next.ensures c.before.before.byte.ensures
 
 pub pair_spec : {M : Type 1} → statement M
 pair_spec = tie.close (tie.spec (λ c κs. search rules) (λ c κs. search rules) (λ c. search rules) returns)

@@ -11,33 +11,33 @@ use Rattle.classes.proofs.Answers.{laid-count, sum-next}
 use Rattle.classes.proofs.byte_class.cost.Statement.{statement}
 use Rattle.classes.proofs.byte_class.cost.Tie as tie
 
-abbrev invariant-loop : tie.invariant-loop
+abbrev invariant-loop : tie.invariant-loop-i
 invariant-loop class cmp n sum₀ i₀ sum i =
     (i ≤ n) × (n ≤ 128) × (sum ≤ 257 * i) × (sum + sum_ops (drop i (comparisons class)) ≡ sum_ops (comparisons class))
 
-abbrev decreases-loop : tie.decreases-loop
+abbrev decreases-loop : tie.decreases-loop-i
 decreases-loop class cmp n sum₀ i₀ sum i = n - i
 
-loop-holds : tie.Need-loop-init invariant-loop decreases-loop
-loop-holds c = (search rules, c.impl-with-cmp.ensures.1, search rules, omega arith)
+loop-holds : tie.Need-loop-i-init invariant-loop decreases-loop
+loop-holds c = (search rules, c.impl_with_cmp-cmp.ensures.1, search rules, omega arith)
 
-loop-again : tie.Need-loop-preserved invariant-loop decreases-loop
+loop-again : tie.Need-loop-i-preserved invariant-loop decreases-loop
 loop-again c =
     let at = c.before.before.before.before.before in
-    (omega arith, omega arith, omega arith, omega (arith, c.count-ops.ensures.0, sum-next (comparisons at.before.before.args.class.now) at.before.impl-with-cmp.ensures.0 at.loop.i (omega arith)))
+    (omega arith, omega arith, omega arith, omega (arith, c.count_ops-sum.ensures.0, sum-next (comparisons at.before.before.args.class.now) at.before.impl_with_cmp-cmp.ensures.0 at.loop-i.i (omega arith)))
 
 returns : tie.Need-returns invariant-loop decreases-loop
 unfolding cost
 returns c =
     let at = c.before in
     let ms = comparisons at.before.before.args.class.now in
-    let n = laid-count ms at.before.impl-with-cmp.ensures.0 in
-    let none : drop at.loop.i ms ≡ [] = drop_of_length-le ms {i = at.loop.i} (omega arith) in
-    let left : sum_ops (drop at.loop.i ms) ≡ 0 = rw none in
+    let n = laid-count ms at.before.impl_with_cmp-cmp.ensures.0 in
+    let none : drop at.loop-i.i ms ≡ [] = drop_of_length-le ms {i = at.loop-i.i} (omega arith) in
+    let left : sum_ops (drop at.loop-i.i ms) ≡ 0 = rw none in
     omega arith
 
-pub cost-spec : {M : Type 1} → statement M
-cost-spec =
+pub cost_spec : {M : Type 1} → statement M
+cost_spec =
     tie.close
     (tie.spec invariant-loop decreases-loop (λ c κs. search rules) loop-holds (λ c. search rules) (λ c. search rules) (λ c. search rules)
     (λ c κs. search rules) (λ c. search rules) (λ c. search rules) (λ c. search rules) loop-again returns)

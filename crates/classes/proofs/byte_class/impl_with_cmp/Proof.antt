@@ -15,73 +15,73 @@ use Rattle.classes.proofs.Joining.{Joining, joining-same, joining-none, joining-
 use Rattle.classes.proofs.byte_class.impl_with_cmp.Statement.{statement}
 use Rattle.classes.proofs.byte_class.impl_with_cmp.Tie as tie
 
-abbrev invariant-loop : tie.invariant-loop
+abbrev invariant-loop : tie.invariant-loop-i
 invariant-loop class held first₀ last₀ holes₀ except₀ count₀ gaps₀ end₀ n i₀ first last holes except count gaps end i =
     (i ≤ n) × (n ≤ 128) × (end ≤ 256) × Joining (ranges class) first last holes except count gaps end i
 
-abbrev decreases-loop : tie.decreases-loop
+abbrev decreases-loop : tie.decreases-loop-i
 decreases-loop class held first₀ last₀ holes₀ except₀ count₀ gaps₀ end₀ n i₀ first last holes except count gaps end i = n - i
 
 -- range i
-abbrev this : tie.After-upto invariant-loop decreases-loop → Range
+abbrev this : tie.After-upto-1 invariant-loop decreases-loop → Range
 this c =
     let at = c.before.before.before in
-    let held = at.before.ranges-2.result in
-    record { first = get_or held.first at.loop.i 0; last = get_or held.last at.loop.i 0 }
+    let held = at.before.ranges-held.result in
+    record { first = get_or held.first at.loop-i.i 0; last = get_or held.last at.loop-i.i 0 }
 
-next : (c : tie.After-upto invariant-loop decreases-loop)
+next : (c : tie.After-upto-1 invariant-loop decreases-loop)
     → let at = c.before.before.before in
     let rs = ranges at.before.before.args.class.now in
-    drop at.loop.i rs ≡ this c ∷ drop (suc at.loop.i) rs
+    drop at.loop-i.i rs ≡ this c ∷ drop (suc at.loop-i.i) rs
 next c =
     let at = c.before.before.before in
-    held_next (ranges at.before.before.args.class.now) at.before.ranges-2.ensures.0 at.loop.i (omega arith)
+    held_next (ranges at.before.before.args.class.now) at.before.ranges-held.ensures.0 at.loop-i.i (omega arith)
 
-latest : (c : tie.Then1 invariant-loop decreases-loop)
-    → let at = c.before.before.before.before in (1 ≤ at.loop.count) × (get_or at.loop.holes (at.loop.count - 1) 0 ≤ at.loop.gaps)
+latest : (c : tie.Then-from-end invariant-loop decreases-loop)
+    → let at = c.before.before.before.before in (1 ≤ at.loop-i.count) × (get_or at.loop-i.holes (at.loop-i.count - 1) 0 ≤ at.loop-i.gaps)
 latest c =
     let byte : Fits w8 (this c.before).first = search rules in
-    joining-latest (this c.before) (next c.before) c.before.before.before.before.loop.invariant.3 (omega arith) (omega arith) (omega arith)
+    joining-latest (this c.before) (next c.before) c.before.before.before.before.loop-i.invariant.3 (omega arith) (omega arith) (omega arith)
 
-loop-holds : tie.Need-loop-init invariant-loop decreases-loop
+loop-holds : tie.Need-loop-i-init invariant-loop decreases-loop
 loop-holds c =
     (search rules, search rules, search rules, joining-none (ranges c.before.args.class.now))
 
-sub-latest : tie.Need-overflow-sub-latest invariant-loop decreases-loop
+sub-latest : tie.Need-overflow_sub-latest invariant-loop decreases-loop
 sub-latest c = omega (arith, (latest c).0)
 
-add-holes : tie.Need-overflow-add-holes invariant-loop decreases-loop
+add-holes : tie.Need-overflow_add-holes invariant-loop decreases-loop
 add-holes c = omega (arith, (latest c).1)
 
-loop-again : tie.Need-loop-preserved invariant-loop decreases-loop
+loop-again : tie.Need-loop-i-preserved invariant-loop decreases-loop
 loop-again c =
     let at = c.before.before.before.before in
-    let p = at.loop.invariant.3 in
+    let p = at.loop-i.invariant.3 in
     let r : Range = this c.before in
     let follows = next c.before in
     let fits : Fits w8 r.first = search rules in
     let fits_last : Fits w8 r.last = search rules in
     let byte : r.first < 256 = omega arith in
-    let room : at.loop.i < 128 = omega arith in
-    let free : at.loop.count < 128 = omega arith in (
+    let room : at.loop-i.i < 128 = omega arith in
+    let free : at.loop-i.count < 128 = omega arith in (
       omega arith,
       omega arith,
       omega arith,
       ⊎_elim
-          (λ w. joining-same w.1 w.2 w.3 w.4 w.5 w.6 refl (joining-longer r follows p w.0.taken byte room))
-          (λ w. joining-same w.1 w.2 w.3 w.4 w.5 w.6 refl (joining-alone r follows p w.0.left free))
-          c.if1.branch,
+          (λ w. joining-same w.first-is w.last-is w.holes-is w.except-is w.count-is w.gaps-is refl (joining-longer r follows p w.if-from-end.true byte room))
+          (λ w. joining-same w.first-is w.last-is w.holes-is w.except-is w.count-is w.gaps-is refl (joining-alone r follows p w.if-from-end.false free))
+          c.if-from-end.branch-raw,
     )
 
 returns : tie.Need-returns invariant-loop decreases-loop
 unfolding comparisons
 returns c =
     let at = c.before in
-    let n = held-count (ranges at.before.before.args.class.now) at.before.ranges-2.ensures.0 in
-    (joining-end (omega arith) at.loop.invariant.3, omega arith)
+    let n = held-count (ranges at.before.before.args.class.now) at.before.ranges-held.ensures.0 in
+    (joining-end (omega arith) at.loop-i.invariant.3, omega arith)
 
-pub impl-with-cmp-spec : {M : Type 1} → statement M
-impl-with-cmp-spec =
+pub impl_with_cmp_spec : {M : Type 1} → statement M
+impl_with_cmp_spec =
     tie.close
     (tie.spec invariant-loop decreases-loop (λ c κs. search rules) loop-holds (λ c. search rules) (λ c. search rules) (λ c. search rules)
     (λ c. search rules) sub-latest (λ c. search rules) (λ c. search rules) (λ c. search rules) (λ c. search rules) add-holes

@@ -11,50 +11,50 @@ use Rattle.classes.proofs.FlagPass.{Pass, pass-none, pass-in, pass-out, pass-clo
 use Rattle.classes.proofs.byte_class.runs.Statement.{statement}
 use Rattle.classes.proofs.byte_class.runs.Tie as tie
 
-abbrev invariant-loop : tie.invariant-loop
+abbrev invariant-loop : tie.invariant-loop-b
 invariant-loop class first₀ last₀ count₀ start₀ b₀ first last count start b = (b ≤ 256) × Pass class first last count start b
 
-abbrev decreases-loop : tie.decreases-loop
+abbrev decreases-loop : tie.decreases-loop-b
 decreases-loop class first₀ last₀ count₀ start₀ b₀ first last count start b = 256 - b
 
-loop-holds : tie.Need-loop-init invariant-loop decreases-loop
-loop-holds c = (search rules, pass-none c.args.t1)
+loop-holds : tie.Need-loop-b-init invariant-loop decreases-loop
+loop-holds c = (search rules, pass-none c.args.class)
 
-loop-again : tie.Need-loop-preserved invariant-loop decreases-loop
+loop-again : tie.Need-loop-b-preserved invariant-loop decreases-loop
 loop-again c =
     let at = c.before.before in
-    let class = at.before.args.t1 in
-    let b = at.loop.b in
+    let class = at.before.args.class in
+    let b = at.loop-b.b in
     let wide : length class ≡ 256 = omega arith in
     let inside : b < length class = omega arith in
-    let p = at.loop.invariant.1 in (
+    let p = at.loop-b.invariant.1 in (
       omega arith,
       ⊎_elim
           (λ w.
-          let out = not-true _ w.0.taken in
-          rw (w.2, w.3, w.4, w.5)
+          let out = w.if-not-class-b.true in
+          rw (w.first-is, w.last-is, w.count-is, w.start-is)
           (⊎_elim
-          (λ v. rw (v.1, v.2, v.3) (pass-close class b inside out v.0.taken (omega arith) p))
-          (λ v. rw (v.1, v.2, v.3) (pass-out class b inside out v.0.left p))
-          w.1.came))
-          (λ w. rw (w.1, w.2, w.3, w.4) (pass-in class b inside (not-false _ w.0.left) p))
-          c.if1.branch,
+          (λ v. rw (v.first-is, v.last-is, v.count-is) (pass-close class b inside out v.if-start-b.true (omega arith) p))
+          (λ v. rw (v.first-is, v.last-is, v.count-is) (pass-out class b inside out v.if-start-b.false p))
+          w.if-start-b.branch-raw))
+          (λ w. rw (w.first-is, w.last-is, w.count-is, w.start-is) (pass-in class b inside w.if-not-class-b.false p))
+          c.if-not-class-b.branch-raw,
     )
 
-returns : tie.Need-returns invariant-loop decreases-loop
+returns : tie.Need-returns-then-start-lt256 invariant-loop decreases-loop
 returns c =
     let at = c.before.before in
-    let full : at.loop.b ≡ 256 = omega arith in
-    (pass-last at.before.args.t1 (omega arith) (omega arith) (rw full at at.loop.invariant.1), omega arith)
+    let full : at.loop-b.b ≡ 256 = omega arith in
+    (pass-last at.before.args.class (omega arith) (omega arith) (rw full at at.loop-b.invariant.1), omega arith)
 
-returns-2 : tie.Need-returns-2 invariant-loop decreases-loop
+returns-2 : tie.Need-returns-else-start-lt256 invariant-loop decreases-loop
 returns-2 c =
     let at = c.before.before in
-    let full : at.loop.b ≡ 256 = omega arith in
-    (pass-end at.before.args.t1 (omega arith) (omega arith) (rw full at at.loop.invariant.1), omega arith)
+    let full : at.loop-b.b ≡ 256 = omega arith in
+    (pass-end at.before.args.class (omega arith) (omega arith) (rw full at at.loop-b.invariant.1), omega arith)
 
-pub runs-spec : {M : Type 1} → statement M
-runs-spec =
+pub runs_spec : {M : Type 1} → statement M
+runs_spec =
     tie.close
     (tie.spec invariant-loop decreases-loop loop-holds (λ c. search rules) (λ c. search rules) (λ c. search rules) (λ c. search rules) (λ c. search rules)
     (λ c. search rules) (λ c. search rules) (λ c. search rules) (λ c. search rules) (λ c. search rules) loop-again (λ c. search rules)

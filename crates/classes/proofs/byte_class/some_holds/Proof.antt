@@ -5,11 +5,11 @@ use Rattle.classes.proofs.Listed.{listed-least}
 use Rattle.classes.proofs.byte_class.some_holds.Statement.{statement}
 use Rattle.classes.proofs.byte_class.some_holds.Tie as tie
 
-some-listed-requires : tie.Need-some-listed-requires
+some-listed-requires : tie.Need-some_listed-requires
 some-listed-requires c κs =
     let low = c.before.before.least.ensures in
-    let mid = c.before.least2.ensures in
-    let top = c.least3.ensures in
+    let mid = c.before.least-2.ensures in
+    let top = c.least-n.ensures in
     (omega arith, (omega arith, omega arith))
 
 returns : tie.Need-returns
@@ -17,9 +17,9 @@ returns c =
     let at = c.before in
     let given = at.before.before.before.before.before.before.before.args in
     let low = at.before.before.least.ensures in
-    let mid = at.before.least2.ensures in
-    let top = at.least3.ensures in
-    rw (listed-least given.count given.first.now given.last.now given.holes.now given.except.now, ← low, ← mid, ← top) c.some-listed.ensures
+    let mid = at.before.least-2.ensures in
+    let top = at.least-n.ensures in
+    rw (listed-least given.count given.first.now given.last.now given.holes.now given.except.now, ← low, ← mid, ← top) c.some_listed.ensures
 
-pub some-holds-spec : {M : Type 1} → statement M
-some-holds-spec = tie.close (tie.spec (λ c κs. search rules) (λ c κs. search rules) (λ c κs. search rules) some-listed-requires returns)
+pub some_holds_spec : {M : Type 1} → statement M
+some_holds_spec = tie.close (tie.spec (λ c κs. search rules) (λ c κs. search rules) (λ c κs. search rules) some-listed-requires returns)

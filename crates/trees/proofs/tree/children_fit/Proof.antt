@@ -4,17 +4,17 @@ use Rattle.trees.proofs.KindRules.{children-none, children-any, child-missing, c
 use Rattle.trees.proofs.tree.children_fit.Statement.{statement}
 use Rattle.trees.proofs.tree.children_fit.Tie as tie
 
-returns : tie.Need-returns
-returns c = children-none _ _ _ (search rules) c.before.if1.true
+returns : tie.Need-returns-then-r-lt-REPETITION
+returns c = children-none _ _ _ (search rules) c.before.if-r-lt-REPETITION.true
 
-returns-2 : tie.Need-returns-2
-returns-2 c = children-any _ _ _ (search rules) c.if2.true
+returns-2 : tie.Need-returns-then-r-gt-CAPTURE
+returns-2 c = children-any _ _ _ (search rules) c.if-r-gt-CAPTURE.true
 
-returns-3 : tie.Need-returns-3
-returns-3 c = child-missing _ _ _ (search rules) (search rules) (search rules) c.if3.true
+returns-3 : tie.Need-returns-then-r-eq0
+returns-3 c = child-missing _ _ _ (search rules) (search rules) (search rules) c.if-r-eq0.true
 
-returns-4 : tie.Need-returns-4
-returns-4 c = child-alone _ _ _ (search rules) (search rules) (search rules) c.before.before.if3.false c.before.record-at.result c.before.record-at.ensures
+returns-4 : tie.Need-returns
+returns-4 c = child-alone _ _ _ (search rules) (search rules) (search rules) c.before.before.if-r-eq0.false c.before.record_at-only.result c.before.record_at-only.ensures
 
-pub children-fit-spec : {M : Type 1} → statement M
-children-fit-spec = tie.close (tie.spec returns returns-2 returns-3 (λ c κs. search rules) returns-4)
+pub children_fit_spec : {M : Type 1} → statement M
+children_fit_spec = tie.close (tie.spec returns returns-2 returns-3 (λ c κs. search rules) returns-4)

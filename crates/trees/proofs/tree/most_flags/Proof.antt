@@ -5,16 +5,16 @@ use Rattle.trees.proofs.KindRules.{no-flags}
 use Rattle.trees.proofs.tree.most_flags.Statement.{statement}
 use Rattle.trees.proofs.tree.most_flags.Tie as tie
 
-returns : tie.Need-returns
+returns : tie.Need-returns-in-2
 unfolding rule_of rules
-returns c = rw c.match.keys1
+returns c = rw c.in_default.keys1
 
-returns-2 : tie.Need-returns-2
+returns-2 : tie.Need-returns-in-4
 unfolding rule_of rules
-returns-2 c = rw c.match.keys2
+returns-2 c = rw c.in_default.keys2
 
-returns-3 : tie.Need-returns-3
-returns-3 c = sym (no-flags _ c.match.rest.0.1 c.match.rest.1)
+returns-3 : tie.Need-returns-in_default
+returns-3 c = sym (no-flags _ c.in_default.rest.0.1 c.in_default.rest.1)
 
-pub most-flags-spec : {M : Type 1} → statement M
-most-flags-spec = tie.close (tie.spec returns returns-2 returns-3)
+pub most_flags_spec : {M : Type 1} → statement M
+most_flags_spec = tie.close (tie.spec returns returns-2 returns-3)

@@ -9,18 +9,18 @@ use Rattle.trees.specs.Tree.{record_of}
 use Rattle.trees.proofs.tree.record_at.Statement.{statement}
 use Rattle.trees.proofs.tree.record_at.Tie as tie
 
-cast-t23 : tie.Need-overflow-cast-t23
-cast-t23 c = omega (arith, c.shared-slice-known5.given (record_words * (c.before.before.before.before.before.args.i - 1) + 4))
+cast-t23 : tie.Need-overflow_cast-result
+cast-t23 c = omega (arith, c.shared_slice_known-5-1.given (record_words * (c.before.before.before.before.before.args.i - 1) + 4))
 
-cast-t28 : tie.Need-overflow-cast-t28
-cast-t28 c = omega (arith, c.shared-slice-known6.given (record_words * (c.before.before.before.before.before.before.args.i - 1) + 5))
+cast-t28 : tie.Need-overflow_cast-result-2
+cast-t28 c = omega (arith, c.shared_slice_known-6-1.given (record_words * (c.before.before.before.before.before.before.args.i - 1) + 5))
 
 returns : tie.Need-returns
 unfolding record_of
 returns c = simp (get_or-drop, add-zero)
 
-pub record-at-spec : {M : Type 1} → statement M
-record-at-spec =
+pub record_at_spec : {M : Type 1} → statement M
+record_at_spec =
     tie.close
     (tie.spec (λ c. search rules) (λ c. search rules) (λ c. search rules) (λ c. search rules) (λ c. search rules) (λ c. search rules)
     (λ c. search rules) (λ c. search rules) (λ c. search rules) (λ c. search rules) (λ c. search rules) (λ c. search rules)

@@ -7,5 +7,5 @@ returns : tie.Need-returns
 unfolding table
 returns c = table-right
 
-pub widths-spec : {M : Type 1} → statement M
-widths-spec = tie.close (tie.spec returns)
+pub widths_spec : {M : Type 1} → statement M
+widths_spec = tie.close (tie.spec returns)

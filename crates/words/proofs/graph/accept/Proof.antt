@@ -16,5 +16,5 @@ returns c =
     let a = c.before.before in
     (ap (λ (x : ℕ). accept_in x) c.word.ensures.0 ∙ sym (accept-is a.args.graph.now a.requires.0 a.args.s a.requires.1), omega arith)
 
-pub accept-spec : {M : Type 1} → statement M
-accept-spec = tie.close (tie.spec word-requires returns)
+pub accept_spec : {M : Type 1} → statement M
+accept_spec = tie.close (tie.spec word-requires returns)

@@ -16,5 +16,5 @@ returns c =
     let a = c.before.before in
     (ap (λ (x : ℕ). early_in x) c.word.ensures.0 ∙ sym (early-is a.args.graph.now a.requires.0 a.args.s a.requires.1), omega arith)
 
-pub early-spec : {M : Type 1} → statement M
-early-spec = tie.close (tie.spec word-requires returns)
+pub early_spec : {M : Type 1} → statement M
+early_spec = tie.close (tie.spec word-requires returns)

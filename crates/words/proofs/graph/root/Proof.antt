@@ -13,5 +13,5 @@ returns c =
     let a = c.before.before in
     (c.word.ensures.0, ⊎_elim (λ h. omega (arith, taken-few a.args.graph.now a.requires)) (λ h. omega arith) (taken-root a.args.graph.now a.requires))
 
-pub root-spec : {M : Type 1} → statement M
-root-spec = tie.close (tie.spec word-requires returns)
+pub root_spec : {M : Type 1} → statement M
+root_spec = tie.close (tie.spec word-requires returns)

@@ -12,20 +12,20 @@ place-requires : tie.Need-place-requires
 place-requires c κs = search rules
 
 -- src/graph.rt:52:5
-mul-graph : tie.Need-overflow-mul-graph
+mul-graph : tie.Need-offset_bounds-graph-place
 mul-graph c = search rules
 
 -- src/graph.rt:52:5
-slice-write-graph : tie.Need-slice-write-graph
+slice-write-graph : tie.Need-bounds-graph-place
 slice-write-graph c = search rules
 
 -- src/graph.rt:46:1
-same_length : tie.Need-same-length
+same_length : tie.Need-shape_of-graph
 same_length c = search rules
 
 -- src/graph.rt:46:1
 returns : tie.Need-returns
 returns c = let a = c.before.before.args in ap (λ (i : ℕ). set a.graph.now i a.word) c.place.ensures
 
-pub set-word-spec : {M : Type 1} → statement M
-set-word-spec = tie.close (tie.spec place-requires mul-graph slice-write-graph same_length returns)
+pub set_word_spec : {M : Type 1} → statement M
+set_word_spec = tie.close (tie.spec place-requires mul-graph slice-write-graph same_length returns)

@@ -10,5 +10,5 @@ word-requires c κs = omega (arith, taken-long c.before.args.graph.now c.before.
 returns : tie.Need-returns
 returns c = (c.word.ensures.0, omega (arith, taken-few c.before.before.args.graph.now c.before.before.requires))
 
-pub states-spec : {M : Type 1} → statement M
-states-spec = tie.close (tie.spec word-requires returns)
+pub states_spec : {M : Type 1} → statement M
+states_spec = tie.close (tie.spec word-requires returns)

@@ -14,5 +14,5 @@ returns c =
     let a = c.before.before in
     c.word.ensures.0 ∙ sym (target_is a.args.graph.now a.requires.0 a.args.s a.args.c a.requires.1.0 a.requires.1.1)
 
-pub target-spec : {M : Type 1} → statement M
-target-spec = tie.close (tie.spec word-requires returns)
+pub target_spec : {M : Type 1} → statement M
+target_spec = tie.close (tie.spec word-requires returns)

@@ -11,5 +11,5 @@ returns c =
     let at = c.before.before.before.args.graph.now in
     (c.word.ensures.0 ∙ ap (λ (i : ℕ). get_or at i 0) c.before.place.ensures, c.word.ensures.1)
 
-pub word-spec : {M : Type 1} → statement M
-word-spec = tie.close (tie.spec (λ c κs. search rules) (λ c κs. search rules) returns)
+pub word_spec : {M : Type 1} → statement M
+word_spec = tie.close (tie.spec (λ c κs. search rules) (λ c κs. search rules) returns)

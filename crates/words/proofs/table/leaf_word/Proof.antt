@@ -5,7 +5,7 @@ use Rattle.words.proofs.table.leaf_word.Statement.{statement}
 use Rattle.words.proofs.table.leaf_word.Tie as tie
 
 returns : tie.Need-returns
-returns c = word_at c.before.before.before.args.table.now c.word.ensures c.before.leaf-place.ensures
+returns c = word_at c.before.before.before.args.table.now c.word.ensures c.before.leaf_place.ensures
 
-pub leaf-word-spec : {M : Type 1} → statement M
-leaf-word-spec = tie.close (tie.spec (λ c κs. search rules) (λ c κs. search rules) returns)
+pub leaf_word_spec : {M : Type 1} → statement M
+leaf_word_spec = tie.close (tie.spec (λ c κs. search rules) (λ c κs. search rules) returns)

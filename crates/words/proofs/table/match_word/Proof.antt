@@ -5,7 +5,7 @@ use Rattle.words.proofs.table.match_word.Statement.{statement}
 use Rattle.words.proofs.table.match_word.Tie as tie
 
 returns : tie.Need-returns
-returns c = word_at c.before.before.before.args.table.now c.word.ensures c.before.match-place.ensures
+returns c = word_at c.before.before.before.args.table.now c.word.ensures c.before.match_place.ensures
 
-pub match-word-spec : {M : Type 1} → statement M
-match-word-spec = tie.close (tie.spec (λ c κs. search rules) (λ c κs. search rules) returns)
+pub match_word_spec : {M : Type 1} → statement M
+match_word_spec = tie.close (tie.spec (λ c κs. search rules) (λ c κs. search rules) returns)

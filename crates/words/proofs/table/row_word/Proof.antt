@@ -5,7 +5,7 @@ use Rattle.words.proofs.table.row_word.Statement.{statement}
 use Rattle.words.proofs.table.row_word.Tie as tie
 
 returns : tie.Need-returns
-returns c = word_at c.before.before.before.args.table.now c.word.ensures c.before.row-place.ensures
+returns c = word_at c.before.before.before.args.table.now c.word.ensures c.before.row_place.ensures
 
-pub row-word-spec : {M : Type 1} → statement M
-row-word-spec = tie.close (tie.spec (λ c κs. search rules) (λ c κs. search rules) returns)
+pub row_word_spec : {M : Type 1} → statement M
+row_word_spec = tie.close (tie.spec (λ c κs. search rules) (λ c κs. search rules) returns)
