@@ -10,11 +10,11 @@ use Rattle.capi.specs.Lent.{Put, put}
 
 -- a block of another length is no store, and gets 15
 abbrev pub is_store : List ℕ → Bool
-is_store tables = eqb (length tables) store_size
+is_store tables = eqb (length tables) 2048
 
 -- the store of a block; one that 15 refuses, since it counts over 64, for a block that is none
 unfoldable pub store_in : List ℕ → ℕ → MaskStore
-store_in tables count = cond (is_store tables) (store_of tables count) (store_of (replicate store_size 0) (suc most_masks))
+store_in tables count = cond (is_store tables) (store_of tables count) (store_of (replicate 2048 0) 65)
 
 -- ---- `add_test_to_lut`
 
@@ -25,16 +25,16 @@ add_to tables count class = cond (is_store tables) (add (store_of tables count) 
 
 -- eight tables one after another: byte i is entry i mod 256 of table i / 256
 abbrev pub flat_at : List (List ℕ) → ℕ → ℕ
-flat_at luts i = get_or (get_or luts (i / table_size) []) (i % table_size) 0
+flat_at luts i = get_or (get_or luts (i / 256) []) (i % 256) 0
 
 unfoldable pub flat : List (List ℕ) → List ℕ
-flat luts = tab 0 store_size (flat_at luts)
+flat luts = tab 0 2048 (flat_at luts)
 
 unfoldable pub rendered : List ℕ → ℕ → Rendered
 rendered tables count =
     cond (is_store tables)
     (render (store_of tables count))
-    (record { refusal = 15; tables = replicate table_count (replicate table_size 0) })
+    (record { refusal = 15; tables = replicate 8 (replicate 256 0) })
 
 -- the tables are handed out in a block
 unfoldable pub render_to : List ℕ → ℕ → List ℕ → Put

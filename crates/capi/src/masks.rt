@@ -12,7 +12,7 @@ const TOO_MANY: usize = MASKS + 1;
 
 // The store of a block that has its length.
 fn store_of(tables: &[u8], count: usize) -> MaskStore
-    requires { length tables.now ≡ store_size }
+    requires { length tables.now ≡ 2048 }
     ensures { result ≡ store_of tables.now count }
 {
     let mut held = [0u8; SIZE];

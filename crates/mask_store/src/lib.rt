@@ -125,7 +125,7 @@ fn low_bits(word: u8, n: usize) -> u8
 
 // How many masks of table t are held.
 fn used_in(count: usize, t: usize) -> usize
-    requires { t < table_count }
+    requires { t < 8 }
     ensures { result ≡ used_in count t }
 {
     if TABLE_MASKS * t + TABLE_MASKS <= count {

@@ -11,7 +11,7 @@ use crate::{MASKS, SIZE, TABLE_MASKS, TABLE_SIZE};
 
 // Whether mask i has the byte.
 pub fn mask_has(tables: &[u8; SIZE], i: usize, byte: u8) -> bool
-    requires { i < most_masks }
+    requires { i < 64 }
     ensures { result ≡ mask_has tables.now i byte }
 {
     bits::test_bit(
@@ -22,7 +22,7 @@ pub fn mask_has(tables: &[u8; SIZE], i: usize, byte: u8) -> bool
 
 // Mask i as a class.
 pub(crate) fn class_at(tables: &[u8; SIZE], i: usize) -> [bool; 256]
-    requires { (i < most_masks) × (length tables.now ≡ store_size) }
+    requires { (i < 64) × (length tables.now ≡ 2048) }
     ensures { result ≡ class_at tables.now i }
 {
     let mut class = [false; 256];
@@ -34,7 +34,7 @@ pub(crate) fn class_at(tables: &[u8; SIZE], i: usize) -> [bool; 256]
 
 // The class is written as mask i: 0 or 1 for each byte, and no other bit.
 pub(crate) fn write_mask(tables: &mut [u8; SIZE], i: usize, class: &[bool; 256])
-    requires { (i < most_masks) × (length tables.old ≡ store_size) × (length class.now ≡ 256) }
+    requires { (i < 64) × (length tables.old ≡ 2048) × (length class.now ≡ 256) }
     ensures { tables.new ≡ written tables.old i class.now }
 {
     let base = TABLE_SIZE * (i / TABLE_MASKS);
@@ -49,7 +49,7 @@ pub(crate) fn write_mask(tables: &mut [u8; SIZE], i: usize, class: &[bool; 256])
 
 // The first of masks `from`, .., `count` - 1 that is this class, or `count`. Each is left at its first unequal byte.
 pub fn number_from(tables: &[u8; SIZE], from: usize, count: usize, class: &[bool; 256]) -> usize
-    requires { (from ≤ count) × (count ≤ most_masks) × (length tables.now ≡ store_size) × (length class.now ≡ 256) }
+    requires { (from ≤ count) × (count ≤ 64) × (length tables.now ≡ 2048) × (length class.now ≡ 256) }
     ensures { result ≡ from + number_of (tab from (count - from) (class_at tables.now)) class.now }
 {
     'masks: for i in from..count {
@@ -66,7 +66,7 @@ pub fn number_from(tables: &[u8; SIZE], from: usize, count: usize, class: &[bool
 // Whether 15 allows the store: it counts at most 64 classes, and none stands twice. At most 2,016 pairs of masks are compared, each up to its first
 // unequal byte.
 pub fn allowed(tables: &[u8; SIZE], count: usize) -> bool
-    requires { length tables.now ≡ store_size }
+    requires { length tables.now ≡ 2048 }
     ensures { result ≡ allowed (store_of tables.now count) }
 {
     if count > MASKS {

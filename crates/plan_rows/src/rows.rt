@@ -22,7 +22,7 @@ use words::graph::states;
 fn own_word(graph: &[u16], s: usize, own: bool, tables: &[u8; SIZE], count: usize) -> u16
     requires graph_value { graph_fits graph.now ≡ true }
     requires s_bound { s < get_or graph.now 0 0 }
-    requires count_le_most_masks { (count ≤ most_masks) × (length tables.now ≡ store_size) }
+    requires count_le_most_masks { (count ≤ 64) × (length tables.now ≡ 2048) }
     ensures { result ≡ cond own (suc (number_of (held (store_of tables.now count)) (class_to (state_of (graph_from graph.now) s) s))) 0 }
 {
     if !own {
@@ -37,7 +37,7 @@ fn edge_word(graph: &[u16], s: usize, u: usize, tables: &[u8; SIZE], count: usiz
     requires graph_value { graph_fits graph.now ≡ true }
     requires s_bound { s < get_or graph.now 0 0 }
     requires u_bound { u < get_or graph.now 0 0 }
-    requires count_le_most_masks { (count ≤ most_masks) × (length tables.now ≡ store_size) }
+    requires count_le_most_masks { (count ≤ 64) × (length tables.now ≡ 2048) }
     ensures { result ≡ way_word (held (store_of tables.now count)) (way_to base (state_of (graph_from graph.now) s) s u) (class_to (state_of (graph_from graph.now) s) u) }
 {
     match way_to(graph, s, u) {
@@ -54,7 +54,7 @@ fn edge_word(graph: &[u16], s: usize, u: usize, tables: &[u8; SIZE], count: usiz
 fn row_at(graph: &[u16], s: usize, tables: &[u8; SIZE], count: usize) -> [u16; layout::ROW]
     requires graph_value { graph_fits graph.now ≡ true }
     requires s_bound { s < get_or graph.now 0 0 }
-    requires count_le_most_masks { (count ≤ most_masks) × (length tables.now ≡ store_size) }
+    requires count_le_most_masks { (count ≤ 64) × (length tables.now ≡ 2048) }
     ensures { result ≡ plan_row base (held (store_of tables.now count)) (graph_from graph.now) s }
 {
     let fork = fork_at(graph, s);
@@ -80,7 +80,7 @@ fn row_at(graph: &[u16], s: usize, tables: &[u8; SIZE], count: usize) -> [u16; l
 pub fn write(graph: &[u16], plan: &mut [u16], tables: &[u8; SIZE], count: usize)
     requires graph_value { graph_fits graph.now ≡ true }
     requires graph_in_bounds { plan_size base (graph_from graph.now) ≤ length plan.old }
-    requires count_le_most_masks { (count ≤ most_masks) × (length tables.now ≡ store_size) }
+    requires count_le_most_masks { (count ≤ 64) × (length tables.now ≡ 2048) }
     ensures { plan.new ≡ plan_words base (held (store_of tables.now count)) (graph_from graph.now) ++ drop (plan_size base (graph_from graph.now)) plan.old }
 {
     let n = states(graph);
@@ -96,7 +96,7 @@ pub fn write(graph: &[u16], plan: &mut [u16], tables: &[u8; SIZE], count: usize)
 pub fn agrees(graph: &[u16], plan: &[u16], tables: &[u8; SIZE], count: usize) -> bool
     requires graph_value { graph_fits graph.now ≡ true }
     requires graph_in_bounds { plan_size base (graph_from graph.now) ≤ length plan.now }
-    requires count_le_most_masks { (count ≤ most_masks) × (length tables.now ≡ store_size) }
+    requires count_le_most_masks { (count ≤ 64) × (length tables.now ≡ 2048) }
     ensures { result ≡ eq_list eqb (take (plan_size base (graph_from graph.now)) plan.now) (plan_words base (held (store_of tables.now count)) (graph_from graph.now)) }
 {
     let n = states(graph);

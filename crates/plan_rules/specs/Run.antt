@@ -46,7 +46,7 @@ led_by g row tables s b =
 abbrev pub run_from : Graph → List (List ℕ) → List ℕ → ℕ → ℕ → Reading → List ℕ → Reading
 run_from g rows tables s k r [] =
     let q = mark (early_of g s) (accept_of g s) k r in
-    onward q (λ u. late (accept_of g u) (suc k) q) (to g s end_step)
+    onward q (λ u. late (accept_of g u) (suc k) q) (to g s 256)
 run_from g rows tables s k r (b ∷ text) =
     let row = get_or rows s [] in
     elim (self_takes tables (self_of row) b) [

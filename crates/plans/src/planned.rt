@@ -27,7 +27,7 @@ fn planned_entry(
     requires graph_value { graph_fits graph.now ≡ true }
     requires at_in_bounds { at < length text.now }
     requires graph_in_bounds { (plan_size base (graph_from graph.now) ≤ length plan.now) × PlanOn (graph_from graph.now) plan.now }
-    requires tables_len { (length tables.now ≡ store_size) × RunsAlike (graph_from graph.now) plan.now tables.now }
+    requires tables_len { (length tables.now ≡ 2048) × RunsAlike (graph_from graph.now) plan.now tables.now }
     requires ends_len { (length ends.now ≡ edges_size) × ((length tests.now ≡ tests_size) × Prepared (graph_from graph.now) ends.now tests.now) }
     ensures { result ≡ entry_of text.now at (read_graph (graph_from graph.now) (drop at text.now)) }
 {
@@ -49,7 +49,7 @@ fn fill(
     requires graph_value { graph_fits graph.now ≡ true }
     requires from_in_bounds { from ≤ length text.now }
     requires graph_in_bounds { (plan_size base (graph_from graph.now) ≤ length plan.now) × PlanOn (graph_from graph.now) plan.now }
-    requires tables_len { (length tables.now ≡ store_size) × RunsAlike (graph_from graph.now) plan.now tables.now }
+    requires tables_len { (length tables.now ≡ 2048) × RunsAlike (graph_from graph.now) plan.now tables.now }
     requires ends_len { (length ends.now ≡ edges_size) × ((length tests.now ≡ tests_size) × Prepared (graph_from graph.now) ends.now tests.now) }
     ensures { (result ≡ (list_from graph.now text.now from out.old).listed) × (out.new ≡ (list_from graph.now text.now from out.old).buffer) }
 {

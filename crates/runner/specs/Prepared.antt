@@ -51,6 +51,6 @@ pub record Prepared (g : Graph) (ends tests : List ℕ) : Type 0 where
 -- the words begin with the plan that some classes give, at most 64, and name none but these
 pub record PlanOn (g : Graph) (words : List ℕ) : Type 0 where
   pub all : List Class
-  pub few : length all ≤ most_masks
+  pub few : length all ≤ 64
   pub words_are : take (plan_size base g) words ≡ plan_words base all g
-  pub held : all_l (row_held most_masks) (rows_of base g words) ≡ true
+  pub held : all_l (row_held 64) (rows_of base g words) ≡ true

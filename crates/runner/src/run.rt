@@ -26,7 +26,7 @@ pub fn run(
 ) -> Record
     requires graph_value { graph_fits graph.now ≡ true }
     requires graph_in_bounds { (plan_size base (graph_from graph.now) ≤ length plan.now) × PlanOn (graph_from graph.now) plan.now }
-    requires tables_len { length tables.now ≡ store_size }
+    requires tables_len { length tables.now ≡ 2048 }
     requires ends_len { (length ends.now ≡ edges_size) × ((length tests.now ≡ tests_size) × Prepared (graph_from graph.now) ends.now tests.now) }
     ensures { recorded result.leaf result.end ≡ run_from (graph_from graph.now) (rows_of base (graph_from graph.now) plan.now) tables.now (graph_from graph.now).root 0 none text.now }
 {

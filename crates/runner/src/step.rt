@@ -16,7 +16,7 @@ use plan_rows::layout;
 
 // Whether the test that plan word w names, of the edge whose comparisons stand at e, takes the byte.
 fn edge_takes(tables: &[u8; SIZE], tests: &[u8], w: usize, e: usize, byte: u8) -> bool
-    requires { (w < 2 + most_masks) × (e < edges_size) × (length tests.now ≡ tests_size) }
+    requires { (w < 66) × (e < edges_size) × (length tests.now ≡ tests_size) }
     ensures { (st : State) → (u : ℕ) → (w ≡ 1 → tests_at tests.now e ≡ comparisons (class_to st u)) → result ≡ edge_takes tables.now st u w byte }
 {
     if w == 0 {

@@ -21,7 +21,7 @@ digit_byte d = 48 + d
 -- the decimal digits of a number, in at most k places
 abbrev pub digits : ℕ → ℕ → List ℕ
 digits zero n = list.[]
-digits (suc k) n = elim (ltb n 10) [ true ↦ one (digit_byte n) | false ↦ digits k (n / 10) ++ one (digit_byte (n % 10)) ]
+digits (suc k) n = elim (ltb n 10) [ true ↦ one (48 + n) | false ↦ digits k (n / 10) ++ one (48 + n % 10) ]
 
 -- a number in decimal, without leading zeros; it has fewer digits than n + 2
 unfoldable pub decimal : ℕ → List ℕ

@@ -13,6 +13,6 @@ pub record Within (w bytes widths : List ℕ) (i : ℕ) : Type 0 where
 
 -- there are at most 1,024 records, and each names lower ones
 pub record Numbered (w : List ℕ) : Type 0 where
-  pub most : count w ≤ most_records
+  pub most : count w ≤ 1024
   pub child : (i : ℕ) → 0 < i → i ≤ count w → (record_of w i).child < i
   pub next : (i : ℕ) → 0 < i → i ≤ count w → (record_of w i).next < i

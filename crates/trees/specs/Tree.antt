@@ -8,12 +8,12 @@ use Rattle.trees.specs.declared.tree.Record.{Record}
 -- ---- the words: six a record. Records are numbered from 1; the number 0 names none
 
 abbrev pub count : List ℕ → ℕ
-count w = length w / record_words
+count w = length w / 6
 
 -- record number i
 unfoldable pub record_of : List ℕ → ℕ → Record
 record_of w i =
-    let p = drop (record_words * (i - 1)) w in
+    let p = drop (6 * (i - 1)) w in
     record { kind = get_or p 0 0; a = get_or p 1 0; b = get_or p 2 0; flags = get_or p 3 0; child = get_or p 4 0; next = get_or p 5 0 }
 
 -- the numbers of all records
@@ -50,9 +50,9 @@ abbrev pub shapes : List ℕ → Record → Chain → List Tree
 shapes bytes r children =
     empty ∷
     literal (take r.b (drop r.a bytes)) ∷
-    class (flag dot_flag r.flags) ∷
+    class (flag 1 r.flags) ∷
     look ∷
-    repetition r.a (flag greedy_flag r.flags) (flag unbounded_flag r.flags) (first_of children) ∷
+    repetition r.a (flag 1 r.flags) (flag 2 r.flags) (first_of children) ∷
     capture (first_of children) ∷
     concat children ∷
     alternation children ∷ []
@@ -97,9 +97,9 @@ unfoldable pub rules : List Rule
 rules =
     rule false false 0 no ∷  -- 0 empty
     rule true true 0 no ∷  -- 1 literal
-    rule false false dot_flag no ∷  -- 2 class
+    rule false false 1 no ∷  -- 2 class
     rule false false 0 no ∷  -- 3 look
-    rule true false (greedy_flag + unbounded_flag) one ∷  -- 4 repetition
+    rule true false 3 one ∷  -- 4 repetition
     rule false false 0 one ∷  -- 5 capture
     rule false false 0 any ∷  -- 6 concat
     rule false false 0 any ∷ []  -- 7 alternation
@@ -110,7 +110,7 @@ rule_of kind = get_or rules kind (rule false false 0 no)
 -- "Every other field or flag is 0."
 unfoldable pub fields_fit : Record → Bool
 fields_fit r =
-    ltb r.kind kind_count
+    ltb r.kind 8
     && ((rule_of r.kind).a || eqb r.a 0)
     && ((rule_of r.kind).b || eqb r.b 0)
     && leb r.flags (rule_of r.kind).flags
@@ -127,7 +127,7 @@ children_fit w any child = true
 
 -- "a literal passes its bytes"
 abbrev pub literal_fits : ℕ → Record → Bool
-literal_fits size r = not (eqb r.kind literal_kind) || leb (r.a + r.b) size
+literal_fits size r = not (eqb r.kind 1) || leb (r.a + r.b) size
 
 -- record i, over this many bytes
 unfoldable pub record_fits : List ℕ → ℕ → ℕ → Bool
@@ -142,9 +142,9 @@ named w i =
 
 unfoldable pub tree_fits : List ℕ → List ℕ → Bool
 tree_fits w bytes =
-    eqb (length w % record_words) 0  -- "a part record"
+    eqb (length w % 6) 0  -- "a part record"
     && leb 1 (count w)  -- "0 or over 1,024 records"
-    && leb (count w) most_records
+    && leb (count w) 1024
     && all_l (record_fits w (length bytes)) (numbers w)
     && all_l (λ i. leb (named w i) 1) (numbers w)  -- "no record is named twice"
     && eqb (record_of w (count w)).next 0  -- "the root has next 0"

@@ -92,7 +92,7 @@ fn fields_fit(r: Record) -> bool
 
 // "Repetition and capture have one child, kinds 0 to 3 none."
 fn children_fit(tree: &[u32], r: Record) -> bool
-    requires { (r.kind < kind_count) × (r.child ≤ count tree.now) }
+    requires { (r.kind < 8) × (r.child ≤ count tree.now) }
     ensures { result ≡ children_fit tree.now (rule_of r.kind).children r.child }
 {
     if r.kind < REPETITION {
@@ -151,7 +151,7 @@ fn records_fit(tree: &[u32], size: usize) -> bool
 // How often each number is named, as first child or as next.
 fn times_named(tree: &[u32]) -> [u16; NUMBERS]
     requires { Numbered tree.now }
-    ensures { result ≡ tab 0 number_count (named tree.now) }
+    ensures { result ≡ tab 0 1025 (named tree.now) }
 {
     let n = tree.len() / WORDS;
     let mut times = [0u16; NUMBERS];
@@ -169,7 +169,7 @@ fn times_named(tree: &[u32]) -> [u16; NUMBERS]
 
 // Every record below n is named once.
 fn each_once(times: &[u16; NUMBERS], n: usize) -> bool
-    requires { n ≤ most_records }
+    requires { n ≤ 1024 }
     ensures { result ≡ all_l (λ i. eqb (get_or times.now i 0) 1) (tab 1 (n - 1) (λ i. i)) }
 {
     let mut i = 1;

@@ -10,7 +10,7 @@ largest = 18446744073709551615
 
 -- one more; the largest number stays
 abbrev pub more : ℕ → ℕ
-more n = min (n + 1) largest
+more n = min (n + 1) 18446744073709551615
 
 -- one more of a kind, if it is to be counted; all kinds from 15 on count as one
 abbrev pub counted : List ℕ → ℕ → Bool → List ℕ
