@@ -4,6 +4,7 @@
 //
 // What the calls answer is defined in specs/Angles.antt; what a text that is an angle looks like, and a written one, in specs/Meaning.antt. That these
 // agree is in proofs/Means.antt and proofs/Form.antt, that a written angle is read back in proofs/Back.antt, cases are in proofs/Cases.antt.
+#![tactic(auto)]
 
 ghost use Rattle.std.specs.Prelude.{◌≡◌};
 ghost use Rattle.angles.specs.Angles.{angle_of, written_of};

@@ -1,4 +1,6 @@
 // The bits of a byte, by shift and mask. They are defined in specs/Bits.antt; what is true of them over all numbers is in proofs/Bits.antt.
+#![tactic(auto)]
+
 ghost use Rattle.std.specs.Prelude.{◌≡◌, ◌<◌};
 ghost use Rattle.bits.specs.Bits.{is_set, with_bit};
 

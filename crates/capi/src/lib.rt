@@ -4,6 +4,7 @@
 //
 // Each function takes its arguments apart, makes one call of a layer below, and stores the answer. Its contract is that call's definition, told in
 // numbers (`Report` of lists/specs); what is of this interface alone is defined in specs/.
+#![tactic(auto)]
 
 pub mod angle;
 pub mod build;

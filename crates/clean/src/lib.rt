@@ -1,6 +1,8 @@
 // Whether a table is clean (docs/RULES.md, "Clean"), and which rule it breaks first, at which state. What the call answers is defined in
 // specs/Answers.antt, over graph_rules/specs/Clean.antt. Each state's leaf is worked out once, so that the time is in proportion to the table's words
 // and to its states' chains.
+#![tactic(auto)]
+
 ghost use Rattle.std.specs.Prelude.{◌≡◌, [], ◌≤◌, ◌<◌, get_or};
 ghost use Rattle.std.proofs.Math.Option.{some};
 ghost use Rattle.graph_rules.specs.Table.{table_of, refusal};

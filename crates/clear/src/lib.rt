@@ -1,4 +1,6 @@
 // Rule 6: accepts that every parent has as early are cleared.
+#![tactic(auto)]
+
 ghost use Rattle.std.specs.Prelude.{◌≡◌, true, false, not, ℕ, ◌<◌, get_or};
 ghost use Rattle.graph_rules.specs.Graph.{graph_fits, graph_from, rewritten};
 ghost use Rattle.graph_rules.specs.Build.{covered, with_cleared};

@@ -1,5 +1,7 @@
 // The conflict list: NoUniversalStart and EmptyMatch of rule 1, Disambiguation of rule 3. How many conflicts there are, how many words they take, and
 // the words. A tie is known by the match record where it begins, and walked by `next_tied`.
+#![tactic(auto)]
+
 ghost use Rattle.std.specs.Prelude.{◌≡◌, ◌+◌, ◌<◌, ◌≤◌, length, get_or, take};
 ghost use mathlib.Core.List.{[], ◌∷◌, flat_map, map};
 ghost use Rattle.std.proofs.lemmas.List.Edits.{sets};

@@ -6,6 +6,7 @@
 //
 // The texts are defined in specs/Display.antt on those of crate `texts`, what the calls answer in specs/Answers.antt. How long a text is at most is in
 // proofs/Sizes.antt and proofs/Conflicts.antt; that a buffer of that size is never refused, in proofs/Rooms.antt.
+#![tactic(auto)]
 
 ghost use Rattle.std.specs.Prelude.{◌≡◌};
 ghost use Rattle.display.specs.Answers.{display_call, line_call};

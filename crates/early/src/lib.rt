@@ -1,4 +1,6 @@
 // Rule 5: early marks.
+#![tactic(auto)]
+
 ghost use Rattle.std.specs.Prelude.{◌≡◌, true, ◌<◌, ◌≤◌, get_or};
 ghost use Rattle.std.proofs.Math.Option;
 ghost use Rattle.graph_rules.specs.Graph.{graph_fits, graph_from, rewritten, to, early_of};

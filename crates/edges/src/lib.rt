@@ -2,6 +2,8 @@
 // the class of the bytes that lead to one. The end step is none of them.
 //
 // They are defined in specs/Edges.antt; what is true of them is in proofs/ByTarget.antt.
+#![tactic(auto)]
+
 ghost use Rattle.std.specs.Prelude.{◌≡◌, true, ◌<◌, get_or};
 ghost use Rattle.lists.specs.Lists.{tab};
 ghost use Rattle.graph_rules.specs.Graph.{state_of, graph_from, graph_fits};

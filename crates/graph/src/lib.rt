@@ -3,6 +3,8 @@
 //
 // The rules are defined in graph_rules/specs; what a build answers and leaves in the buffers, in specs/New.antt. The promises on the words that a build
 // returns are proofs/{ReadingsAlike,AllReached,NoEqualStates}.antt.
+#![tactic(auto)]
+
 pub mod image;
 pub mod new;
 

@@ -1,4 +1,6 @@
 // Rule 3: the leaf of a state, or the tie that stands in its place. A chain is walked by the numbers of its match records; 0 ends it.
+#![tactic(auto)]
+
 ghost use Rattle.std.specs.Prelude.{◌≡◌, ◌<◌, ◌≤◌, get_or};
 ghost use Rattle.std.proofs.Math.Option;
 ghost use Rattle.graph_rules.specs.Table.{table_of, refusal, row_of, match_of};

@@ -1,5 +1,7 @@
 // Refusals 1 to 7: the conditions on a table's words, judged in the order of their numbers, so that no word is read that is not there. And the steps
 // of a table that is not refused.
+#![tactic(auto)]
+
 ghost use Rattle.std.specs.Prelude.{◌≡◌, ◌<◌, get_or};
 ghost use Rattle.graph_rules.specs.Table.{refusal, table_of, step, counts_fit, empties_fit, targets_fit, heads_fit, records_fit};
 ghost use Rattle.graph_rules.specs.Layout.{step_count};

@@ -3,6 +3,8 @@
 //
 // A store comes from outside and may be anything: the public calls `add_by_value`, `add_test_to_lut`, `add_by_loan` and `render_luts` answer 15 where
 // it is none (docs/REFUSALS.md). What each answers is defined in specs/Masks.antt.
+#![tactic(auto)]
+
 ghost use Rattle.std.specs.Prelude.{◌≡◌, true, ◌%◌, ◌^◌, ◌<◌, ◌≤◌};
 ghost use Rattle.mask_store.specs.Layout.{table_count};
 ghost use Rattle.mask_store.specs.Masks.{allowed, refused_with, add, used_in, render};

@@ -1,5 +1,7 @@
 // Rule 8: equal states become the lowest of them, in rounds until one merges nothing. A round compares each state with the earlier ones that stay, so a
 // graph of n states, d of them distinct, takes at most n d comparisons of two rows a round.
+#![tactic(auto)]
+
 ghost use Rattle.std.specs.Prelude.{◌≡◌, true, false, not, cond, ℕ, ◌<◌, get_or};
 ghost use Rattle.graph_rules.specs.Graph.{graph_fits, graph_from, rewritten, state_of};
 ghost use Rattle.graph_rules.specs.Build.{merge_round, merges_none, merged};

@@ -2,6 +2,7 @@
 // other edge by a mask or by comparisons. The choices of the Rust's fork.rs and fast_loop.rs.
 //
 // They are defined in crates/plan_rules; here are the functions that make them from well-formed graph words (refusal 12).
+#![tactic(auto)]
 
 pub mod fork;
 pub mod layout;

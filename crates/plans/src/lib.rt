@@ -2,6 +2,8 @@
 // the crates that hold them, planning (`plan`) and the scan by a graph (`scan`, `list`).
 //
 // What `run` and `planned` answer is defined in specs/Run.antt; demand 3 is proofs/Demand3.antt.
+#![tactic(auto)]
+
 pub mod planned;
 pub mod run;
 

@@ -5,6 +5,7 @@
 // and into the buffer.
 //
 // The printed bytes are defined in specs/Print.antt, the inner functions' parts of them in specs/Parts.antt.
+#![tactic(auto)]
 
 ghost use Rattle.std.specs.Prelude.{◌≡◌, true, ◌≤◌, length};
 ghost use Rattle.texts.specs.Text.{Wrote, Counts};

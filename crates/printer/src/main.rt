@@ -3,6 +3,8 @@
 //
 // An image has at most 65,536 bytes; one more is read, to tell that it is longer. A read or a write that fails is told on standard error, and after
 // a failed read nothing is printed. (The kit's programs cannot end with a status of their own.)
+#![tactic(auto)]
+
 ghost use Rattle.std.specs.Prelude.{◌≡◌, length};
 ghost use Rattle.print.specs.Print.{most_printed};
 

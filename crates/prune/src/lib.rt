@@ -1,4 +1,6 @@
 // Rule 7: the states that are kept.
+#![tactic(auto)]
+
 ghost use Rattle.std.specs.Prelude.{◌≡◌, true, false, ◌||◌, ◌++◌, ℕ, ◌+◌, ◌*◌, ◌-◌, ◌<◌, eqb, get_or, replicate};
 ghost use Rattle.graph_rules.specs.Graph.{graph_fits, graph_from, rewritten, state_of, leads};
 ghost use Rattle.graph_rules.specs.Build.{kept, marked, pruned};

@@ -1,5 +1,7 @@
 // Rule 2: the states reached from the start, by a worklist: a state goes on the stack once, when it is first met, and its targets are looked at
 // once, when it is taken off.
+#![tactic(auto)]
+
 ghost use Rattle.std.specs.Prelude.{◌≡◌, false, ◌++◌, ◌<◌, ◌-◌, get_or, replicate};
 ghost use Rattle.graph_rules.specs.Build.{reached};
 ghost use Rattle.graph_rules.specs.Table.{refusal, table_of};

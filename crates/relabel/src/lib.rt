@@ -1,4 +1,6 @@
 // Rules 7 and 8: the rows that stay move together, in their order, and every state gets its new name.
+#![tactic(auto)]
+
 ghost use Rattle.std.specs.Prelude.{◌≡◌, true, ◌⊎◌, ℕ, ◌<◌, ◌≤◌, length, get_or};
 ghost use Rattle.std.proofs.Math.Option;
 ghost use Rattle.std.proofs.Math.Option.{none};

@@ -1,5 +1,7 @@
 // Replays the stored answers on builds (docs/ORACLE.md, "builds.bin"): every table is built from its words and from its image, and answers, refusals
 // and both buffers are compared with what the original answers.
+#![tactic(auto)]
+
 mod calls;
 
 use vectors::walk::Walk;

@@ -1,5 +1,7 @@
 // Replays the stored answers on classes and mask stores (docs/ORACLE.md, "classes.bin"): every value is compared with what crates `classes`
 // and `mask_store` answer.
+#![tactic(auto)]
+
 mod byte_class;
 mod masks;
 

@@ -1,5 +1,7 @@
 // Replays the stored texts of graphs and lines of errors (docs/ORACLE.md, "display.bin"): every one is compared with what crate `display`
 // writes.
+#![tactic(auto)]
+
 mod texts;
 
 use vectors::walk::Walk;

@@ -1,5 +1,7 @@
 // Replays the stored plans and planned runs (docs/ORACLE.md, "plans.bin"): every graph is planned on its store, and every text is run and listed by
 // the plan. Answers, refusals, the lent buffers and the whole store are compared with what the original answers.
+#![tactic(auto)]
+
 mod lists;
 mod plan;
 mod run;

@@ -1,5 +1,7 @@
 // Replays the stored answers on literals and pattern trees (docs/ORACLE.md, "priorities.bin"): every value is compared with what crate
 // `pattern` answers.
+#![tactic(auto)]
+
 mod literals;
 mod trees;
 

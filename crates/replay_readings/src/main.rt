@@ -1,6 +1,8 @@
 // Replays the stored readings and scans (docs/ORACLE.md, "readings.bin"): every table is built, and judged clean or not; every text is read by the
 // table and by the graph, scanned piece by piece, and listed into buffers; then the same of graphs that no table gives. Every value is compared with
 // the stored one.
+#![tactic(auto)]
+
 mod lists;
 mod scan;
 mod tables;

@@ -1,5 +1,7 @@
 // Rules 2 to 4: the first rows of the graph. The reached states are renumbered in ascending order, steps to state 0 are dropped, and each state
 // accepts its leaf.
+#![tactic(auto)]
+
 ghost use Rattle.std.specs.Prelude.{◌≡◌, false, ◌++◌, ℕ, ◌+◌, ◌-◌, ◌<◌, ◌≤◌, length, get_or, take, replicate};
 ghost use Rattle.std.proofs.lemmas.List.Edits.{sets};
 ghost use Rattle.lists.specs.Sets.{count};

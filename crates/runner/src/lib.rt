@@ -2,6 +2,7 @@
 // the end target last.
 //
 // The run is defined in crates/plan_rules. What of a graph is worked out once, before its texts are run, is in specs/Prepared.antt.
+#![tactic(auto)]
 
 mod comparisons;
 pub mod prepare;

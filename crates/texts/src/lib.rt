@@ -3,6 +3,7 @@
 //
 // Texts and the writing of them are defined in specs/Text.antt; texts written one after another are in proofs/Writing.antt, how many digits a number
 // has at most in proofs/Decimals.antt, texts with separators in proofs/Joins.antt.
+#![tactic(auto)]
 
 ghost use Rattle.std.specs.Prelude.{◌≡◌, [], ◌∷◌, ◌++◌, ◌+◌, ◌<◌};
 ghost use Rattle.texts.specs.Text.{one, digit_byte, decimal, Wrote, Counts};

@@ -1,4 +1,6 @@
 // The code points of a text, if it is well-formed UTF-8 (Unicode, Table 3-7).
+#![tactic(auto)]
+
 ghost use Rattle.std.specs.Prelude.{◌≡◌};
 ghost use Rattle.lists.specs.Lists.{tab};
 ghost use Rattle.utf8.specs.Utf8.{width_of, code_points};

@@ -3,6 +3,7 @@
 //
 // A list is a slice of bytes. A reader takes any place: what lies past the end is 0. A place never passes one byte past the end, so that a list
 // that ends too early is told from one that is read whole. What each reader answers is defined in specs/Reading.antt.
+#![tactic(auto)]
 
 ghost use Rattle.std.specs.Prelude.{◌≡◌, ◌<◌, min, ◌+◌, length, replicate};
 ghost use Rattle.vectors.specs.Reading.{byte_at, half_at, word_at, bit_at, flags_at, part_at};

@@ -1,5 +1,7 @@
 // The layouts of graph words (`graph`) and of table words (`table`): each is drawn once, beside the functions through which alone all other code
 // reads and writes such words.
+#![tactic(auto)]
+
 ghost use Rattle.std.specs.Prelude.{◌≡◌, ◌<◌, ◌≤◌, ◌-◌, length, get_or, replicate};
 ghost use Rattle.std.proofs.lemmas.List.Edits.{sets};
 
