@@ -52,7 +52,7 @@ counts : (l : tie.At-loop-i invariant-loop decreases-loop) → Counts (first_of 
 counts l =
     let e = else-of l in
     let s = e.before.before.before in
-    counts-then s.args.at (range_of (class_of l) e.before.ranges.ensures.0 0) (barred (class_of l) 1) (subst (Counts s.args.at) (first e) s.requires) (first_of l).range-next.ensures
+    counts-then s.args.at (range_of (class_of l) e.before.ranges-held.ensures.0 0) (barred (class_of l) 1) (subst (Counts s.args.at) (first e) s.requires) (first_of l).range-next.ensures
 
 -- range i is next
 ahead : (l : tie.At-loop-i invariant-loop decreases-loop) → l.loop-i.i < (else-of l).before.ranges-held.result.count
@@ -78,7 +78,7 @@ returns-2 c =
     let l = c.before in
     let e = else-of l in
     wrote_as (sym (first e))
-    (wrote_then (first_of l).range-next.ensures (ends (underway-as (barred-none (class_of l) e.before.ranges.ensures.0 l.loop-i.i (omega arith)) l.loop-i.invariant.1)))
+    (wrote_then (first_of l).range-next.ensures (ends (underway-as (barred-none (class_of l) e.before.ranges-held.ensures.0 l.loop-i.i (omega arith)) l.loop-i.invariant.1)))
 
 same_length : tie.Need-shape_of-out invariant-loop decreases-loop
 same_length c = wrote-length (returns-2 c)

@@ -28,7 +28,7 @@ returns c = let p = c.before.before in wrote_as (sym (lettered p.before.before))
 plain : (c : tie.Then-b-le126) → escaped c.before.before.before.before.before.args.b ≡ one c.before.before.before.before.before.args.b
 plain c =
     let e = c.before.before in
-    escaped-plain _ _ e.before.letter-letter.ensures e.if-letter-gt0.false (rw (le-leb _ _ c.before.if-b-ge32.true) c.if-b-le126.true)
+    escaped-plain _ _ e.before.letter-letter.ensures e.if-letter-gt0.false (rw (le-leb _ _ c.before.if-b-ge32.true, le-leb _ _ c.if-b-le126.true))
 
 byte-requires : tie.Need-byte-requires
 byte-requires c κs = let t = c.before in let s = t.before.before.before.before.before in subst (Counts s.args.at) (plain t) s.requires
@@ -42,7 +42,7 @@ hexed : (c : tie.Joined-else-b-ge32) → escaped c.before.before.before.before.a
 hexed c =
     let e = c.before in
     escaped-hex _ _ e.before.letter-letter.ensures e.if-letter-gt0.false
-    (⊎_elim (λ w. rw (le-leb _ _ w.if-b-ge32.true) w.if-b-le126.false) (λ w. rw (lt-leb _ _ w.if-b-ge32.false)) c.else-b-ge32.branch-raw)
+    (⊎_elim (λ w. rw (le-leb _ _ w.if-b-ge32.true, lt-leb _ _ w.if-b-le126.false)) (λ w. rw (lt-leb _ _ w.if-b-ge32.false)) c.else-b-ge32.branch-raw)
 
 pair-requires-2 : tie.Need-pair-next-requires
 pair-requires-2 c κs = let t = c.before in let s = t.before.before.before.before in omega (arith, s.requires, ap length (hexed t))

@@ -50,7 +50,7 @@ abbrev first_of : tie.At-loop-i invariant-loop decreases-loop → tie.After-numb
 first_of l = l.before.before.before
 
 abbrev read_of : tie.At-loop-i invariant-loop decreases-loop → tie.After-word-count invariant-loop decreases-loop
-read_of l = (first_of l).before.before.before
+read_of l = (first_of l).before.before.before.before
 
 -- after the kind, the leaves have numbers too
 counts : (l : tie.At-loop-i invariant-loop decreases-loop) → Counts (first_of l).numbered-next.result (spaced (words (read_of l)) 0)
