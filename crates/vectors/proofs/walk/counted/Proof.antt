@@ -4,7 +4,7 @@ use Rattle.vectors.proofs.walk.counted.Statement.{statement}
 use Rattle.vectors.proofs.walk.counted.Tie as tie
 
 returns : tie.Need-returns-then-wanted
-returns c = simp (c.before.before.if-wanted.true, c.more.ensures, c.before.least-k.ensures)
+returns c = simp (c.before.before.if-wanted.true, c.more.ensures, c.before.index-k.ensures)
 
 pub counted_spec : {M : Type 1} → statement M
 counted_spec =
