@@ -169,8 +169,12 @@ met_has l [] = refl
 met_has l (c ∷ cs) = go (is (among l c)) (met_has l cs) (met_has (l ++ c ∷ []) cs)
   where
     go : Is (among l c) → all_l (among (met l cs)) cs ≡ true → all_l (among (met (l ++ c ∷ []) cs)) cs ≡ true → all_l (among (met l (c ∷ cs))) (c ∷ cs) ≡ true
-    go (yes-is q) f g = rw q (and_intro (among (met l cs) c) _ (among-met l cs c q) f)
-    go (no-is q) f g = rw q (and_intro (among (met (l ++ c ∷ []) cs) c) _ (among-met (l ++ c ∷ []) cs c (among-last l c q)) g)
+    go (yes-is q) f g =
+        let e : met l (c ∷ cs) ≡ met l cs = rw q in
+        subst (λ (m : List Class). all_l (among m) (c ∷ cs) ≡ true) (sym e) (and_intro (among (met l cs) c) _ (among-met l cs c q) f)
+    go (no-is q) f g =
+        let e : met l (c ∷ cs) ≡ met (l ++ c ∷ []) cs = rw q in
+        subst (λ (m : List Class). all_l (among m) (c ∷ cs) ≡ true) (sym e) (and_intro (among (met (l ++ c ∷ []) cs) c) _ (among-met (l ++ c ∷ []) cs c (among-last l c q)) g)
 
 none_last : (l : List Class) (c : Class) → none_twice l ≡ true → among l c ≡ false → none_twice (l ++ c ∷ []) ≡ true
 none_last [] c a n = refl

@@ -4,7 +4,7 @@ use mathlib.Core.List.{List, [], ◌∷◌, map}
 use Prim.Native.Nat.{ℕ}
 use mir.Val.{Val, vbool}
 use seplogic.Ra.Ura.{Ura}
-use seplogic.Ra.TreeShare.{full_share}
+use base.Fraction.{full_share}
 use base.Logic.{ent}
 use base.Fml.{fat, fsep}
 use types.Logic.{Logic, sem}

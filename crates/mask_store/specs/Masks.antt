@@ -1,11 +1,10 @@
 -- The mask store (docs/RULES.md, "Masks"), its growth, refusal 15, and the eight tables. Definitions only.
-use Rattle.std.specs.Prelude.{Bool, true, false, cond, ◌&&◌, not, List, [], ◌∷◌, ◌++◌, map, ℕ, suc, ◌-◌, ◌%◌, ◌^◌, min, leb, ltb, length, get_or, take, drop, replicate}
+use Rattle.std.specs.Prelude.{Bool, true, false, cond, ◌&&◌, not, List, [], ◌∷◌, ◌++◌, map, ℕ, suc, ◌+◌, ◌-◌, ◌*◌, ◌/◌, ◌%◌, ◌^◌, min, leb, ltb, length, get_or, take, drop, replicate}
 use Rattle.std.specs.Bool.{beq}
 use Rattle.lists.specs.Lists.{tab, eq_list}
 use Rattle.lists.specs.Report.{Report, reporting, refusing}
 use Rattle.bits.specs.Bits.{is_set, with_bit}
 use Rattle.classes.specs.Classes.{Class}
-use Rattle.mask_store.specs.Layout.{table_count, table_size, table_masks, most_masks, mask_table, mask_bit, mask_of, table_place, entry_place}
 use Rattle.mask_store.specs.declared.MaskStore.{MaskStore}
 use Rattle.mask_store.specs.declared.AddAnswer.{AddAnswer}
 use Rattle.mask_store.specs.declared.AddAnswer.TheVariants.{Number, Refused}

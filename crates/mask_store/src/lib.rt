@@ -6,7 +6,6 @@
 #![tactic(auto)]
 
 ghost use Rattle.std.specs.Prelude.{◌≡◌, true, ◌%◌, ◌^◌, ◌<◌, ◌≤◌};
-ghost use Rattle.mask_store.specs.Layout.{table_count};
 ghost use Rattle.mask_store.specs.Masks.{allowed, refused_with, add, used_in, render};
 
 pub mod tables;

@@ -2,7 +2,6 @@
 // the layers above, which know what they ask: an array behind a reference carries no length into a proof, so they are told it.
 ghost use Rattle.std.specs.Prelude.{◌≡◌, ◌+◌, ◌-◌, ◌<◌, ◌≤◌, length};
 ghost use Rattle.lists.specs.Lists.{tab};
-ghost use Rattle.mask_store.specs.Layout.{store_size, most_masks};
 ghost use Rattle.mask_store.specs.Masks.{mask_has, class_at, number_of, written, store_of, allowed};
 
 use crate::{MASKS, SIZE, TABLE_MASKS, TABLE_SIZE};

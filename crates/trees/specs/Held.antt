@@ -2,7 +2,6 @@
 use Rattle.std.specs.Prelude.{◌≡◌, true, List, ℕ, ◌≤◌, ◌<◌}
 use Rattle.lists.specs.Lists.{tab}
 use Rattle.utf8.specs.Utf8.{width_of}
-use Rattle.trees.specs.Layout.{most_records}
 use Rattle.trees.specs.Tree.{count, record_of, tree_fits}
 
 -- the words are a tree over these bytes, these are the widths that lead bytes announce, and i is at most the number of records

@@ -2,7 +2,6 @@
 -- records that are refused, the tree means nothing.
 use Rattle.std.specs.Prelude.{Bool, true, false, not, ◌&&◌, ◌||◌, List, [], ◌∷◌, ℕ, zero, suc, ◌+◌, ◌*◌, ◌-◌, ◌/◌, ◌%◌, eqb, leb, ltb, length, get_or, take, drop}
 use Rattle.lists.specs.Lists.{tab, all_l, those}
-use Rattle.trees.specs.Layout.{record_words, most_records, literal_kind, kind_count, dot_flag, greedy_flag, unbounded_flag}
 use Rattle.trees.specs.declared.tree.Record.{Record}
 
 -- ---- the words: six a record. Records are numbered from 1; the number 0 names none

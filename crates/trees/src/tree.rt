@@ -1,7 +1,6 @@
 // The records of a pattern tree, and refusal 10: whether words and bytes are a tree.
 ghost use Rattle.std.specs.Prelude.{◌≡◌, ◌-◌, ◌<◌, ◌≤◌, eqb, get_or};
 ghost use Rattle.lists.specs.Lists.{tab, all_l};
-ghost use Rattle.trees.specs.Layout.{most_records, number_count, kind_count};
 ghost use Rattle.trees.specs.Tree.{count, record_of, numbers, rule_of, fields_fit, children_fit, literal_fits, record_fits, named, tree_fits};
 ghost use Rattle.trees.specs.Held.{Numbered};
 

@@ -50,94 +50,94 @@ mark-is w taken k h = go (is (covered g k))
     go (yes-is q) = let a = accept true q in let b = early in rw q (omega arith)
     go (no-is q) = let a = accept false q ∙ accept-is w taken k h in let b = early in rw q (omega arith)
 
-abbrev invariant-loop : tie.invariant-loop
+abbrev invariant-loop : tie.invariant-loop-s
 invariant-loop graph₀ n lasting s₀ graph s = (s ≤ n) × Marked graph₀ (mark graph₀) s graph
 
-abbrev decreases-loop : tie.decreases-loop
+abbrev decreases-loop : tie.decreases-loop-s
 decreases-loop graph₀ n lasting s₀ graph s = n - s
 
-abbrev St : tie.At-loop invariant-loop decreases-loop → tie.Start invariant-loop decreases-loop
-St c = c.before.before.before.before.before.before
+abbrev St : tie.At-loop-s invariant-loop decreases-loop → tie.Start invariant-loop decreases-loop
+St c = c.before.before.before.before
 
-abbrev w₀ : tie.At-loop invariant-loop decreases-loop → List ℕ
+abbrev w₀ : tie.At-loop-s invariant-loop decreases-loop → List ℕ
 w₀ c = (St c).args.graph.now
 
-count : (c : tie.At-loop invariant-loop decreases-loop) → c.before.before.before.states.result ≡ get_or (w₀ c) 0 0
-count c = c.before.before.before.states.ensures.0
+count : (c : tie.At-loop-s invariant-loop decreases-loop) → c.before.before.states-n.result ≡ get_or (w₀ c) 0 0
+count c = c.before.before.states-n.ensures.0
 
 -- the flag of the state that the turn looks at
-flag : (c : tie.In-loop invariant-loop decreases-loop) → get_or c.before.before.uncovered.result c.before.loop.s false ≡ not (covered (graph_from (w₀ c.before)) c.before.loop.s)
-flag c = let e = count c.before in c.before.before.uncovered.ensures c.before.loop.s (omega arith)
+flag : (c : tie.In-loop-s invariant-loop decreases-loop) → get_or c.before.before.uncovered-lasting.result c.before.loop-s.s false ≡ not (covered (graph_from (w₀ c.before)) c.before.loop-s.s)
+flag c = let e = count c.before in c.before.before.uncovered-lasting.ensures c.before.loop-s.s (omega arith)
 
 -- the words fit in every turn, and the state is one of theirs
-fits : (c : tie.In-loop invariant-loop decreases-loop) → (graph_fits c.before.loop.graph ≡ true) × (c.before.loop.s < get_or c.before.loop.graph 0 0)
+fits : (c : tie.In-loop-s invariant-loop decreases-loop) → (graph_fits c.before.loop-s.graph ≡ true) × (c.before.loop-s.s < get_or c.before.loop-s.graph 0 0)
 fits c =
     let p = c.before in
-    let l = p.loop in
+    let l = p.loop-s in
     let e = count p in
     let m = l.invariant.1 in
     let h = marked-count (w₀ p) (St p).requires (mark (w₀ p)) l.s l.graph m in
     (marked-fits (w₀ p) (St p).requires (mark (w₀ p)) l.s l.graph m, omega arith)
 
-states-requires : tie.Need-states-requires invariant-loop decreases-loop
-states-requires c κs = c.before.before.requires
+states-requires : tie.Need-states-n-requires invariant-loop decreases-loop
+states-requires c κs = c.before.requires
 
-uncovered-requires : tie.Need-uncovered-requires invariant-loop decreases-loop
-uncovered-requires c κs = c.before.before.before.before.requires
+uncovered-requires : tie.Need-uncovered-lasting-requires invariant-loop decreases-loop
+uncovered-requires c κs = c.before.before.requires
 
-loop-holds : tie.Need-loop-init invariant-loop decreases-loop
+loop-holds : tie.Need-loop-s-init invariant-loop decreases-loop
 loop-holds c = (omega arith, marked-none _ _)
 
-array-read-if1 : tie.Need-array-read-if1 invariant-loop decreases-loop
+array-read-if1 : tie.Need-bounds-lasting-s invariant-loop decreases-loop
 array-read-if1 c =
-    let e = count c.before in omega (arith, taken-few (w₀ c.before) (St c.before).pre)
+    let e = count c.before in omega (arith, taken-few (w₀ c.before) (St c.before).requires)
 
-early-requires : tie.Need-early-requires invariant-loop decreases-loop
-early-requires c κs = fits c.before.before
+early-requires : tie.Need-early-leaf-requires invariant-loop decreases-loop
+early-requires c κs = fits c.before
 
-set-marks-requires : tie.Need-set-marks-requires invariant-loop decreases-loop
+set-marks-requires : tie.Need-set_marks-requires invariant-loop decreases-loop
 set-marks-requires c κs =
-    let p = c.before.before.before.before.before in
-    let m = p.loop.invariant.1.len in
+    let p = c.before.before.before.before in
+    let m = p.loop-s.invariant.1.len in
     let e = count p in
-    let few = p.before.before.before.states.ensures.1 in
-    (omega arith, ((omega arith, c.before.early.ensures.1), omega (arith, taken-long (w₀ p) (St p).requires)))
+    let few = p.before.before.states-n.ensures.1 in
+    (omega arith, ((omega arith, c.before.early-leaf.ensures.1), omega (arith, taken-long (w₀ p) (St p).requires)))
 
-loop-again : tie.Need-loop-preserved invariant-loop decreases-loop
+loop-again : tie.Need-loop-s-preserved invariant-loop decreases-loop
 loop-again c =
     let t = c.before in
     let p = t.before in
-    let l = p.loop in
+    let l = p.loop-s in
     let w = w₀ p in
     let m = l.invariant.1 in
     let e = count p in
     let x = get_or w (graph_place l.s marks_place) 0 in
-    let to : (v : List ℕ) → c.if1.graph ≡ v → Marked w (mark w) (l.s + 1) v → Marked w (mark w) (l.s + 1) c.if1.graph =
+    let to : (v : List ℕ) → c.if-not-lasting-s.graph ≡ v → Marked w (mark w) (l.s + 1) v → Marked w (mark w) (l.s + 1) c.if-not-lasting-s.graph =
     λ v q y. subst (Marked w (mark w) (l.s + 1)) (sym q) y in (
       omega arith,
       ⊎_elim
           (λ v.
-          let off : covered (graph_from w) l.s ≡ true = not-false _ (sym (flag t) ∙ not-true _ v.0.taken) in
-          let early = v.2.ensures.0 ∙ early-is l.graph (fits t).0 l.s (fits t).1 in
+          let off : covered (graph_from w) l.s ≡ true = not-false _ (sym (flag t) ∙ v.if-not-lasting-s.true) in
+          let early = v.early-leaf.ensures.0 ∙ early-is l.graph (fits t).0 l.s (fits t).1 in
           let here = marked-later w (St p).requires (mark w) l.s l.graph m l.s (omega arith) in
-          let word : marks_word no_leaf v.2.result ≡ marks_word no_leaf (early_in x) = omega arith in
-          to _ (v.7 ∙ v.4.ensures ∙ ap (set l.graph (graph_place l.s marks_place)) (word ∙ ap (λ (b : Bool). cond b (marks_word no_leaf (early_in x)) x) (sym off)))
+          let word : marks_word no_leaf v.early-leaf.result ≡ marks_word no_leaf (early_in x) = omega arith in
+          to _ (v.graph-is ∙ v.set_marks.ensures ∙ ap (set l.graph (graph_place l.s marks_place)) (word ∙ ap (λ (b : Bool). cond b (marks_word no_leaf (early_in x)) x) (sym off)))
           (marked_more w (mark w) l.s l.graph (omega (arith, taken-long w (St p).requires)) m))
           (λ v.
-          let on : covered (graph_from w) l.s ≡ false = not-true _ (sym (flag t) ∙ not-false _ v.0.left) in
-          to _ v.1 (marked-keep w (mark w) l.s l.graph (ap (λ (b : Bool). cond b (marks_word no_leaf (early_in x)) x) (sym on)) m))
-          c.if1.branch,
+          let on : covered (graph_from w) l.s ≡ false = not-true _ (sym (flag t) ∙ v.if-not-lasting-s.false) in
+          to _ v.graph-is (marked-keep w (mark w) l.s l.graph (ap (λ (b : Bool). cond b (marks_word no_leaf (early_in x)) x) (sym on)) m))
+          c.if-not-lasting-s.branch-raw,
     )
 
 returns : tie.Need-returns invariant-loop decreases-loop
 unfolding with_cleared graph_from
 returns c =
     let p = c.before in
-    let l = p.loop in
+    let l = p.loop-s in
     let w = w₀ p in
     let taken = (St p).requires in
     let e = count p in
-    let small : (i : ℕ) → get_or w i 0 < 65536 = λ i. omega (arith, p.before.before.before.before.before.slice-known.given i) in (
+    let small : (i : ℕ) → get_or w i 0 < 65536 = λ i. omega (arith, p.before.before.before.slice_known-1.given i) in (
       marked_all w taken (mark w) l.s l.graph l.invariant.1 (omega arith) (with_cleared (graph_from w))
           (cleared-fits no_leaf (get_or w 0 0) (graph_from w) (taken-fits w taken small)) (cleared-length (graph_from w) ∙ from-length w) refl (cleared-to (graph_from w))
           (mark-is w taken),

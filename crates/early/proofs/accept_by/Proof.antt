@@ -11,29 +11,29 @@ use Rattle.early.proofs.accept_by.Statement.{statement}
 use Rattle.early.proofs.accept_by.Tie as tie
 use Rattle.graph_rules.specs.Layout.{no_leaf}
 
-returns : tie.Need-returns
+returns : tie.Need-returns-then-u-eq-NONE
 returns c =
-    let t = c.before.target in
+    let t = c.before.target-u in
     let a = c.before.before.before in
     let w = a.args.graph.now in
-    (ap (λ (o : Option ℕ). get_or (accept_by (graph_from w) o) no_leaf) (sym (edge_none w a.requires.0 a.args.s a.args.c t.result t.ensures c.if1.true)), omega arith)
+    (ap (λ (o : Option ℕ). get_or (accept_by (graph_from w) o) no_leaf) (sym (edge_none w a.requires.0 a.args.s a.args.c t.result t.ensures c.if-u-eq-NONE.true)), omega arith)
 
 accept-requires : tie.Need-accept-requires
 accept-requires c κs =
-    let t = c.before.target in
+    let t = c.before.target-u in
     let a = c.before.before.before in
-    (a.requires.0, (edge-some a.args.graph.now a.requires.0 a.args.s a.args.c t.result t.ensures c.if1.false).1)
+    (a.requires.0, (edge-some a.args.graph.now a.requires.0 a.args.s a.args.c t.result t.ensures c.if-u-eq-NONE.false).1)
 
-returns-2 : tie.Need-returns-2
+returns-2 : tie.Need-returns
 returns-2 c =
-    let t = c.before.before.target in
+    let t = c.before.before.target-u in
     let a = c.before.before.before.before in
     let w = a.args.graph.now in (
       c.accept.ensures.0
           ∙ ap (λ (o : Option ℕ). get_or (accept_by (graph_from w) o) no_leaf)
-          (sym (edge-some w a.requires.0 a.args.s a.args.c t.result t.ensures c.before.if1.false).0),
+          (sym (edge-some w a.requires.0 a.args.s a.args.c t.result t.ensures c.before.if-u-eq-NONE.false).0),
       c.accept.ensures.1,
     )
 
-pub accept-by-spec : {M : Type 1} → statement M
-accept-by-spec = tie.close (tie.spec (λ c κs. search rules) returns accept-requires returns-2)
+pub accept_by_spec : {M : Type 1} → statement M
+accept_by_spec = tie.close (tie.spec (λ c κs. search rules) returns accept-requires returns-2)

@@ -11,9 +11,9 @@ returns : tie.Need-returns
 returns c =
     let at = c.before.before in
     let w = at.args.table.now in
-    let e = c.record-word.ensures ∙ sym (match-next w at.args.i at.requires.1.0 at.requires.1.1) in
+    let e = c.record_word.ensures ∙ sym (match-next w at.args.i at.requires.1.0 at.requires.1.1) in
     let b = next-below w at.requires.0 at.args.i at.requires.1.0 at.requires.1.1 in
     (e, omega arith)
 
-pub match-next-spec : {M : Type 1} → statement M
-match-next-spec = tie.close (tie.spec (λ c κs. search rules) returns)
+pub match_next_spec : {M : Type 1} → statement M
+match_next_spec = tie.close (tie.spec (λ c κs. search rules) returns)

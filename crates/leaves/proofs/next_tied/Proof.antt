@@ -14,9 +14,9 @@ returns c =
     let at = c.before.before.before.before in
     let t = table_of at.args.table.now in
     let low = next-tied-low at.args.table.now at.requires.0 at.args.i at.requires.1.0 at.requires.1.1 in
-    let e = c.first-with.ensures ∙ ap₂ (first_with t) c.before.before.priority.ensures c.before.match-next.ensures.0 in
+    let e = c.first_with.ensures ∙ ap₂ (first_with t) c.before.before.priority.ensures c.before.match_next.ensures.0 in
     (e, omega arith)
 
-pub next-tied-spec : {M : Type 1} → statement M
-next-tied-spec =
+pub next_tied_spec : {M : Type 1} → statement M
+next_tied_spec =
     tie.close (tie.spec (λ c κs. search rules) (λ c κs. search rules) (λ c κs. search rules) returns)

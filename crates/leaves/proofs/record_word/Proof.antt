@@ -14,14 +14,14 @@ leaves-requires c κs = let z = legal-sized _ c.before.requires.0 in omega arith
 states-requires : tie.Need-states-requires
 states-requires c κs = let z = legal-sized _ c.before.before.requires.0 in omega arith
 
-match-word-requires : tie.Need-match-word-requires
+match-word-requires : tie.Need-match_word-requires
 match-word-requires c κs = let z = legal-sized _ c.before.before.before.requires.0 in omega arith
 
 returns : tie.Need-returns
 returns c =
     let at = c.before.before.before.before.args in
-    c.match-word.ensures.0
+    c.match_word.ensures.0
     ∙ ap₂ (λ (m n : ℕ). get_or at.table.now (match_place m n at.i at.c) 0) c.before.before.leaves.ensures.0 c.before.states.ensures.0
 
-pub record-word-spec : {M : Type 1} → statement M
-record-word-spec = tie.close (tie.spec leaves-requires states-requires match-word-requires returns)
+pub record_word_spec : {M : Type 1} → statement M
+record_word_spec = tie.close (tie.spec leaves-requires states-requires match-word-requires returns)

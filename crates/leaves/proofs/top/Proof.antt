@@ -13,10 +13,10 @@ unfolding top_of
 returns c =
     let at = c.before.before.before.before in
     let t = table_of at.args.table.now in
-    let h = c.before.before.head.ensures.0 in
+    let h = c.before.before.head-i.ensures.0 in
     let low = top-low at.args.table.now at.requires.0 at.args.s in
-    let e = c.first-with.ensures ∙ ap₂ (first_with t) (c.before.highest.ensures ∙ ap (highest_from t) h) h in
+    let e = c.first_with.ensures ∙ ap₂ (first_with t) (c.before.highest.ensures ∙ ap (highest_from t) h) h in
     (e, omega arith)
 
-pub top-spec : {M : Type 1} → statement M
-top-spec = tie.close (tie.spec (λ c κs. search rules) (λ c κs. search rules) (λ c κs. search rules) returns)
+pub top_spec : {M : Type 1} → statement M
+top_spec = tie.close (tie.spec (λ c κs. search rules) (λ c κs. search rules) (λ c κs. search rules) returns)

@@ -9,29 +9,29 @@ use Rattle.legal.proofs.Judging.{empties-judged}
 use Rattle.legal.proofs.empties_fit.Statement.{statement}
 use Rattle.legal.proofs.empties_fit.Tie as tie
 
-abbrev invariant-loop : tie.invariant-loop
+abbrev invariant-loop : tie.invariant-loop-l
 invariant-loop table m l₀ l = (l ≤ m) × ((k : ℕ) → k < l → empty_word table k ≤ 1)
 
-abbrev decreases-loop : tie.decreases-loop
+abbrev decreases-loop : tie.decreases-loop-l
 decreases-loop table m l₀ l = m - l
 
-returns : tie.Need-returns invariant-loop decreases-loop
+returns : tie.Need-returns-then-leaf_word-gt1 invariant-loop decreases-loop
 returns c =
     let at = c.before.before.before in
-    sym (judged-false (empties-judged at.before.before.before.args.table.now) at.loop.l (omega arith) (λ b. omega arith))
+    sym (judged-false (empties-judged at.before.before.before.args.table.now) at.loop-l.l (omega arith) (λ b. omega arith))
 
-loop-again : tie.Need-loop-preserved invariant-loop decreases-loop
+loop-again : tie.Need-loop-l-preserved invariant-loop decreases-loop
 loop-again c =
     let at = c.before.before.before in
-    (omega arith, below_more _ at.loop.l at.loop.invariant.1 (omega arith))
+    (omega arith, below_more _ at.loop-l.l at.loop-l.invariant.1 (omega arith))
 
-returns-2 : tie.Need-returns-2 invariant-loop decreases-loop
+returns-2 : tie.Need-returns invariant-loop decreases-loop
 returns-2 c =
     let at = c.before in
-    sym ((empties-judged at.before.before.before.args.table.now).all (λ l h. at.loop.invariant.1 l (omega arith)))
+    sym ((empties-judged at.before.before.before.args.table.now).all (λ l h. at.loop-l.invariant.1 l (omega arith)))
 
-pub empties-fit-spec : {M : Type 1} → statement M
-empties-fit-spec =
+pub empties_fit_spec : {M : Type 1} → statement M
+empties_fit_spec =
     tie.close
     (tie.spec invariant-loop decreases-loop (λ c κs. omega arith) (λ c. omega arith) (λ c κs. omega arith) returns (λ c. omega arith) (λ c. omega arith)
     loop-again returns-2)

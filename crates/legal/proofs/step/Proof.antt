@@ -13,7 +13,7 @@ use Rattle.legal.proofs.step.Tie as tie
 leaves-requires : tie.Need-leaves-requires
 leaves-requires c κs = let z = legal-sized _ c.before.requires.0 in omega arith
 
-row-word-requires : tie.Need-row-word-requires
+row-word-requires : tie.Need-row_word-requires
 row-word-requires c κs = let z = legal-sized _ c.before.before.requires.0 in omega arith
 
 returns : tie.Need-returns

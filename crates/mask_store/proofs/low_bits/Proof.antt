@@ -9,17 +9,17 @@ use Rattle.bits.proofs.Bits.{one_shl}
 use Rattle.mask_store.proofs.low_bits.Statement.{statement}
 use Rattle.mask_store.proofs.low_bits.Tie as tie
 
-sub-result : tie.Need-overflow-sub-result
-sub-result c = rw (one_shl c.before.args.n c.if1.true) (pow_pos c.before.args.n)
+sub-result : tie.Need-overflow_sub-result
+sub-result c = rw (one_shl c.before.args.n c.if-n-lt8.true) (pow_pos c.before.args.n)
 
-returns : tie.Need-returns
-returns c = rw (one_shl c.before.args.n c.if1.true) (and_mask c.before.args.word c.before.args.n)
+returns : tie.Need-returns-then-n-lt8
+returns c = rw (one_shl c.before.args.n c.if-n-lt8.true) (and_mask c.before.args.word c.before.args.n)
 
-returns-2 : tie.Need-returns-2
+returns-2 : tie.Need-returns-else-n-lt8
 returns-2 c =
     let w = c.before.args.word in
     let all : c.before.args.n ≡ 8 = omega arith in
     rw all (sym (mod-eq_of_lt {n = w} {m = 256} (omega arith)))
 
-pub low-bits-spec : {M : Type 1} → statement M
-low-bits-spec = tie.close (tie.spec (λ c. search rules) (λ c. search rules) sub-result returns returns-2)
+pub low_bits_spec : {M : Type 1} → statement M
+low_bits_spec = tie.close (tie.spec (λ c. search rules) (λ c. search rules) sub-result returns returns-2)

@@ -6,7 +6,6 @@ use mathlib.Core.List.{List}
 use Prim.Native.Nat.{ℕ, ◌+◌, ◌-◌, ◌≤◌, ◌<◌}
 use native.Mathlib.Omega.{arith}
 use borrow.Author.Count.{below_none, below_more}
-use borrow.Author.Tests.{not-true, not-false}
 use lib.ListN.{length, get_or, set, replicate, length-replicate}
 use lib.Seq.{get_or-set_same}
 use Rattle.lists.specs.Sets.{In, count}
@@ -27,7 +26,7 @@ begun tgt cap Good s h g = (
   get_or-set_same (replicate cap false) s true false (omega (arith, length-replicate cap false)),
 )
 
-abbrev invariant-loop2 : tie.invariant-loop2
+abbrev invariant-loop2 : tie.invariant-loop-c
 invariant-loop2 table start m out₀ stack₀ top₀ s c₀ out stack top c =
     Work (target_word table) step_count most_states (Found table start) (λ k. k ≡ s) out stack top
     × In out start
@@ -35,13 +34,13 @@ invariant-loop2 table start m out₀ stack₀ top₀ s c₀ out stack top c =
     × (c ≤ step_count)
     × (count out + top₀ ≡ count out₀ + top)
 
-abbrev decreases-loop2 : tie.decreases-loop2
+abbrev decreases-loop2 : tie.decreases-loop-c
 decreases-loop2 table start m out₀ stack₀ top₀ s c₀ out stack top c = step_count - c
 
-abbrev invariant-loop : tie.invariant-loop
+abbrev invariant-loop : tie.invariant-loop-top
 invariant-loop table start m out₀ stack₀ top₀ out stack top = Work (target_word table) step_count most_states (Found table start) (λ k. ⊥) out stack top × In out start
 
-abbrev decreases-loop : tie.decreases-loop
+abbrev decreases-loop : tie.decreases-loop-top
 decreases-loop table start m out₀ stack₀ top₀ out stack top = (most_states - count out) + top
 
 -- ---- what is known at each place
@@ -55,116 +54,116 @@ words c = c.args.table.now
 sized : (c : Begin) → Sized (words c)
 sized c = legal-sized (words c) c.requires.0
 
-module _ (c : tie.In-loop invariant-loop2 decreases-loop2 invariant-loop decreases-loop) where
+module _ (c : tie.In-loop-top invariant-loop2 decreases-loop2 invariant-loop decreases-loop) where
   abbrev begin : Begin
   begin = c.before.before.before.before
 
   -- the state that a turn takes off the stack
   abbrev state : ℕ
-  state = get_or c.before.loop.stack (c.before.loop.top - 1) 0
+  state = get_or c.before.loop-top.stack (c.before.loop-top.top - 1) 0
 
   state-found : Found (words begin) begin.args.start state
-  state-found = let l = c.before.loop in l.invariant.0.good state (l.invariant.0.held (l.top - 1) (omega arith))
+  state-found = let l = c.before.loop-top in l.invariant.0.good state (l.invariant.0.held (l.top - 1) (omega arith))
 
   state-below : state < get_or (words begin) 0 0
-  state-below = found_below (words begin) begin.pre.0 begin.args.start begin.pre.1 state state-found
+  state-below = found_below (words begin) begin.requires.0 begin.args.start begin.requires.1 state state-found
 
-module _ (c : tie.After-row-word invariant-loop2 decreases-loop2 invariant-loop decreases-loop) where
-  abbrev outer : tie.In-loop invariant-loop2 decreases-loop2 invariant-loop decreases-loop
+module _ (c : tie.After-row_word-u invariant-loop2 decreases-loop2 invariant-loop decreases-loop) where
+  abbrev outer : tie.In-loop-top invariant-loop2 decreases-loop2 invariant-loop decreases-loop
   outer = c.before.before.before
 
   -- the target that a turn of the inner loop looks at
-  target_is : c.row_word.result ≡ target_word (words (begin outer)) (state outer) c.before.before.loop2.c
+  target_is : c.row_word-u.result ≡ target_word (words (begin outer)) (state outer) c.before.before.loop-c.c
   target_is =
-      c.row_word.ensures.0
-      ∙ ap (λ (m : ℕ). get_or (words (begin outer)) (row_place m (state outer) c.before.before.loop2.c) 0) outer.before.before.leaves.ensures.0
+      c.row_word-u.ensures.0
+      ∙ ap (λ (m : ℕ). get_or (words (begin outer)) (row_place m (state outer) c.before.before.loop-c.c) 0) outer.before.before.leaves-m.ensures.0
 
-  target_found : Found (words (begin outer)) (begin outer).args.start c.row_word.result
+  target_found : Found (words (begin outer)) (begin outer).args.start c.row_word-u.result
   target_found =
       let b = begin outer in
       subst (Found (words b) b.args.start) (sym target_is)
-      (found-step (words b) b.pre.0 b.args.start b.pre.1 (state outer) c.before.before.loop2.c (state-found outer) (omega arith))
+      (found-step (words b) b.requires.0 b.args.start b.requires.1 (state outer) c.before.before.loop-c.c (state-found outer) (omega arith))
 
-  target_below : c.row_word.result < most_states
+  target_below : c.row_word-u.result < most_states
   target_below =
       let b = begin outer in
       let n = sized b in
-      let l = found_below (words b) b.pre.0 b.args.start b.pre.1 c.row_word.result target_found in
+      let l = found_below (words b) b.requires.0 b.args.start b.requires.1 c.row_word-u.result target_found in
       omega arith
 
-leaves-requires : tie.Need-leaves-requires invariant-loop2 decreases-loop2 invariant-loop decreases-loop
+leaves-requires : tie.Need-leaves-m-requires invariant-loop2 decreases-loop2 invariant-loop decreases-loop
 leaves-requires c κs = let z = sized c.before in omega arith
 
-array-write-out : tie.Need-array-write-out invariant-loop2 decreases-loop2 invariant-loop decreases-loop
+array-write-out : tie.Need-bounds-out-start invariant-loop2 decreases-loop2 invariant-loop decreases-loop
 array-write-out c = let z = sized c.before.before in omega arith
 
-loop-holds : tie.Need-loop-init invariant-loop2 decreases-loop2 invariant-loop decreases-loop
+loop-holds : tie.Need-loop-top-init invariant-loop2 decreases-loop2 invariant-loop decreases-loop
 loop-holds c =
     let a = c.before.before in
     let z = sized a in
     begun (target_word (words a)) most_states (Found (words a) a.args.start) a.args.start (omega arith) (found-start (words a) a.requires.0 a.args.start a.requires.1)
 
-mul-s : tie.Need-overflow-mul-s invariant-loop2 decreases-loop2 invariant-loop decreases-loop
-mul-s c = omega (arith, count-length c.before.loop.out)
+mul-s : tie.Need-offset_bounds-stack-top invariant-loop2 decreases-loop2 invariant-loop decreases-loop
+mul-s c = omega (arith, count-length c.before.loop-top.out)
 
-array-read-s : tie.Need-array-read-s invariant-loop2 decreases-loop2 invariant-loop decreases-loop
-array-read-s c = omega (arith, count-length c.before.loop.out)
+array-read-s : tie.Need-bounds-stack-top invariant-loop2 decreases-loop2 invariant-loop decreases-loop
+array-read-s c = omega (arith, count-length c.before.loop-top.out)
 
-loop2-holds : tie.Need-loop2-init invariant-loop2 decreases-loop2 invariant-loop decreases-loop
+loop2-holds : tie.Need-loop-c-init invariant-loop2 decreases-loop2 invariant-loop decreases-loop
 loop2-holds c =
     let a = begin c in
-    let l = c.before.loop in (
-      pop (target_word (words a)) step_count most_states (Found (words a) a.args.start) l.out l.stack l.top c.loop-test.true l.invariant.0,
+    let l = c.before.loop-top in (
+      pop (target_word (words a)) step_count most_states (Found (words a) a.args.start) l.out l.stack l.top c.loop-top-test.true l.invariant.0,
       l.invariant.1,
       below_none _,
       omega arith,
       refl,
     )
 
-loop-less : tie.Need-loop-smaller invariant-loop2 decreases-loop2 invariant-loop decreases-loop
+loop-less : tie.Need-loop-top-smaller invariant-loop2 decreases-loop2 invariant-loop decreases-loop
 loop-less c =
-    omega (arith, count-length c.before.loop2.out, count-length c.before.before.before.loop.out)
+    omega (arith, count-length c.before.loop-c.out, count-length c.before.before.before.loop-top.out)
 
-loop-again : tie.Need-loop-preserved invariant-loop2 decreases-loop2 invariant-loop decreases-loop
+loop-again : tie.Need-loop-top-preserved invariant-loop2 decreases-loop2 invariant-loop decreases-loop
 loop-again c =
     let a = begin c.before.before in
-    let m = c.before.loop2 in (
+    let m = c.before.loop-c in (
       finish (target_word (words a)) step_count most_states (Found (words a) a.args.start) m.out m.stack m.top (state c.before.before)
           (λ j h. m.invariant.2 j (omega arith)) m.invariant.0,
       m.invariant.1,
     )
 
-row-word-requires : tie.Need-row-word-requires invariant-loop2 decreases-loop2 invariant-loop decreases-loop
+row-word-requires : tie.Need-row_word-u-requires invariant-loop2 decreases-loop2 invariant-loop decreases-loop
 row-word-requires c κs =
     let z = sized (begin c.before.before) in let b = state-below c.before.before in omega arith
 
-array-read-if1 : tie.Need-array-read-if1 invariant-loop2 decreases-loop2 invariant-loop decreases-loop
+array-read-if1 : tie.Need-bounds-out-u invariant-loop2 decreases-loop2 invariant-loop decreases-loop
 array-read-if1 c = omega (arith, target_below c)
 
-array-write-out-2 : tie.Need-array-write-out-2 invariant-loop2 decreases-loop2 invariant-loop decreases-loop
+array-write-out-2 : tie.Need-bounds-out-u-then-not-out-u invariant-loop2 decreases-loop2 invariant-loop decreases-loop
 array-write-out-2 c = omega (arith, target_below c.before)
 
-mul-stack : tie.Need-overflow-mul-stack invariant-loop2 decreases-loop2 invariant-loop decreases-loop
-mul-stack c = omega (arith, count-length c.before.before.before.loop2.out)
+mul-stack : tie.Need-offset_bounds-stack-top-then-not-out-u invariant-loop2 decreases-loop2 invariant-loop decreases-loop
+mul-stack c = omega (arith, count-length c.before.before.before.loop-c.out)
 
-array-write-stack-2 : tie.Need-array-write-stack-2 invariant-loop2 decreases-loop2 invariant-loop decreases-loop
+array-write-stack-2 : tie.Need-bounds-stack-top-then-not-out-u invariant-loop2 decreases-loop2 invariant-loop decreases-loop
 array-write-stack-2 c =
-    let l = c.before.before.before.loop2 in
-    let u = c.before.row_word.result in
-    let room : count l.out < length l.out = count_room l.out u (omega (arith, target_below c.before)) (not-true _ c.if1.true) in
+    let l = c.before.before.before.loop-c in
+    let u = c.before.row_word-u.result in
+    let room : count l.out < length l.out = count_room l.out u (omega (arith, target_below c.before)) c.if-not-out-u.true in
     omega arith
 
-add-top : tie.Need-overflow-add-top invariant-loop2 decreases-loop2 invariant-loop decreases-loop
-add-top c = omega (arith, count-length c.before.before.before.loop2.out)
+add-top : tie.Need-overflow_add-top invariant-loop2 decreases-loop2 invariant-loop decreases-loop
+add-top c = omega (arith, count-length c.before.before.before.loop-c.out)
 
-loop2-again : tie.Need-loop2-preserved invariant-loop2 decreases-loop2 invariant-loop decreases-loop
+loop2-again : tie.Need-loop-c-preserved-then-not-out-u invariant-loop2 decreases-loop2 invariant-loop decreases-loop
 loop2-again c =
     let d = c.before in
     let a = begin (outer d) in
-    let l = d.before.before.loop2 in
-    let u = d.row_word.result in
+    let l = d.before.before.loop-c in
+    let u = d.row_word-u.result in
     let low = target_below d in
-    let free = not-true _ c.if1.true in
+    let free = c.if-not-out-u.true in
     let more : count (set l.out u true) ≡ count l.out + 1 = count-more l.out u (omega arith) free in (
       push (target_word (words a)) step_count most_states (Found (words a) a.args.start) l.out l.stack l.top u low free (target_found d) l.invariant.0,
       in-keeps l.out u a.args.start l.invariant.1,
@@ -173,22 +172,22 @@ loop2-again c =
       omega arith,
     )
 
-loop2-again-2 : tie.Need-loop2-preserved-2 invariant-loop2 decreases-loop2 invariant-loop decreases-loop
+loop2-again-2 : tie.Need-loop-c-preserved invariant-loop2 decreases-loop2 invariant-loop decreases-loop
 loop2-again-2 c =
     let d = c.before in
-    let l = d.before.before.loop2 in
-    (l.invariant.0, l.invariant.1, below_more _ l.c l.invariant.2 (rw (← target_is d) (not-false _ c.if1.false)), omega arith, l.invariant.4)
+    let l = d.before.before.loop-c in
+    (l.invariant.0, l.invariant.1, below_more _ l.c l.invariant.2 (rw (← target_is d) c.if-not-out-u.false), omega arith, l.invariant.4)
 
 returns : tie.Need-returns invariant-loop2 decreases-loop2 invariant-loop decreases-loop
 returns c =
     let a = c.before.before.before.before in
-    let l = c.before.loop in
+    let l = c.before.loop-top in
     reached-is (words a) a.requires.0 a.args.start a.requires.1 l.out l.invariant.0.out_len l.invariant.1
-    (closed (target_word (words a)) step_count most_states (Found (words a) a.args.start) l.out l.stack l.top c.loop-test.false l.invariant.0)
+    (closed (target_word (words a)) step_count most_states (Found (words a) a.args.start) l.out l.stack l.top c.loop-top-test.false l.invariant.0)
     l.invariant.0.good
 
-pub reached-spec : {M : Type 1} → statement M
-reached-spec =
+pub reached_spec : {M : Type 1} → statement M
+reached_spec =
     tie.close
     (tie.spec invariant-loop2 decreases-loop2 invariant-loop decreases-loop leaves-requires array-write-out (λ c. omega arith) loop-holds (λ c. omega arith) mul-s
     array-read-s loop2-holds loop-less loop-again row-word-requires (λ c. omega arith) array-read-if1 array-write-out-2 mul-stack

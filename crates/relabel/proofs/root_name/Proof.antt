@@ -10,17 +10,17 @@ use Rattle.relabel.proofs.root_name.Statement.{statement}
 use Rattle.relabel.proofs.root_name.Tie as tie
 use Rattle.graph_rules.specs.Layout.{no_state}
 
-returns : tie.Need-returns
+returns : tie.Need-returns-then-name
 returns c =
-    let a = c.before.before in
+    let a = c.before.before.before in
     let e = a.requires.0 in
-    ap (λ (o : Option ℕ). get_or o 0) (sym (name-is a.args.names.now a.args.root (omega arith) ∙ or-none no_state _ c.if1.true))
+    ap (λ (o : Option ℕ). get_or o 0) (sym (name-is a.args.names.now a.args.root (omega arith) ∙ or-none no_state _ c.if-name.true))
 
-returns-2 : tie.Need-returns-2
+returns-2 : tie.Need-returns
 returns-2 c =
-    let a = c.before.before in
+    let a = c.before.before.before in
     let e = a.requires.0 in
-    ap (λ (o : Option ℕ). get_or o 0) (sym (name-is a.args.names.now a.args.root (omega arith) ∙ or-number no_state _ c.if1.false))
+    ap (λ (o : Option ℕ). get_or o 0) (sym (name-is a.args.names.now a.args.root (omega arith) ∙ or-number no_state _ c.if-name.false))
 
-pub root-name-spec : {M : Type 1} → statement M
-root-name-spec = tie.close (tie.spec (λ c. search rules) (λ c. search rules) returns returns-2)
+pub root_name_spec : {M : Type 1} → statement M
+root_name_spec = tie.close (tie.spec (λ c. search rules) (λ c. search rules) returns returns-2)

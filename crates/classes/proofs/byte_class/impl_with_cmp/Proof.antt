@@ -37,7 +37,7 @@ next c =
     let at = c.before.before.before in
     held_next (ranges at.before.before.args.class.now) at.before.ranges-held.ensures.0 at.loop-i.i (omega arith)
 
-latest : (c : tie.Then-from-end invariant-loop decreases-loop)
+latest : (c : tie.Then-from-end-unread invariant-loop decreases-loop)
     → let at = c.before.before.before.before in (1 ≤ at.loop-i.count) × (get_or at.loop-i.holes (at.loop-i.count - 1) 0 ≤ at.loop-i.gaps)
 latest c =
     let byte : Fits w8 (this c.before).first = search rules in
@@ -51,7 +51,7 @@ sub-latest : tie.Need-overflow_sub-latest invariant-loop decreases-loop
 sub-latest c = omega (arith, (latest c).0)
 
 add-holes : tie.Need-overflow_add-holes invariant-loop decreases-loop
-add-holes c = omega (arith, (latest c).1)
+add-holes c = omega (arith, (latest (record { before = c.before; if-from-end = record { true = c.if-from-end.true } })).1)
 
 loop-again : tie.Need-loop-i-preserved invariant-loop decreases-loop
 loop-again c =

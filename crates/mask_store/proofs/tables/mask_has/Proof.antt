@@ -8,6 +8,6 @@ returns : tie.Need-returns
 unfolding mask_has
 returns c = c.test_bit.ensures
 
-pub mask-has-spec : {M : Type 1} → statement M
-mask-has-spec =
+pub mask_has_spec : {M : Type 1} → statement M
+mask_has_spec =
     tie.close (tie.spec (λ c. search rules) (λ c. search rules) (λ c. search rules) (λ c κs. search rules) returns)

@@ -1,6 +1,5 @@
 -- `pattern::tree::fits` meets its contract: its tests are the rules of a tree, in the order of `Check`. Assumes nothing.
 use mathlib.Core.Path.{sym, ◌∙◌}
-use borrow.Author.Tests.{not-true, not-false}
 use Rattle.trees.proofs.Check.{numbered, part-record, no_record, over-most, wrong-record, root-goes-on, named-rightly}
 use borrow.Author.Rules.{rules}
 use Rattle.trees.proofs.tree.fits.Statement.{statement}

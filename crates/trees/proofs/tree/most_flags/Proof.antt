@@ -7,14 +7,14 @@ use Rattle.trees.proofs.tree.most_flags.Tie as tie
 
 returns : tie.Need-returns-in-2
 unfolding rule_of rules
-returns c = rw c.in_default.keys1
+returns c = rw c.in-2.is
 
 returns-2 : tie.Need-returns-in-4
 unfolding rule_of rules
-returns-2 c = rw c.in_default.keys2
+returns-2 c = rw c.in-4.is
 
 returns-3 : tie.Need-returns-in_default
-returns-3 c = sym (no-flags _ c.in_default.rest.0.1 c.in_default.rest.1)
+returns-3 c = sym (no-flags _ c.in_default.in_default-own.rest.0.1 c.in_default.in_default-own.rest.1)
 
 pub most_flags_spec : {M : Type 1} → statement M
 most_flags_spec = tie.close (tie.spec returns returns-2 returns-3)

@@ -2,7 +2,6 @@
 use mathlib.Core.Path.{sym, ◌∙◌}
 use native.Mathlib.Omega.{arith}
 use borrow.Author.Rules.{rules}
-use borrow.Author.Tests.{not-true, not-false}
 use Rattle.trees.proofs.TreeLaws.{kind_fits}
 use Rattle.trees.proofs.Check.{wrong-fields, wrong-child, wrong-next, right-so-far}
 use Rattle.trees.proofs.tree.record_fits.Statement.{statement}

@@ -4,7 +4,6 @@ use mathlib.Core.Path.{sym, ◌∙◌}
 use Prim.Native.Nat.{◌+◌, ◌-◌, ◌≤◌}
 use native.Mathlib.Omega.{arith}
 use borrow.Author.Rules.{rules}
-use borrow.Author.Tests.{not-true, not-false}
 use Rattle.lists.proofs.Intervals.{Passing, passing-none, passing-more, from_all, from-fails}
 use Rattle.trees.specs.Tree.{count, record_fits}
 use Rattle.trees.proofs.tree.records_fit.Statement.{statement}
