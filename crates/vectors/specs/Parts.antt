@@ -1,6 +1,10 @@
 -- Buffers, compared with what is written into their front. Definitions only.
-use Rattle.std.specs.Prelude.{◌≡◌, Bool, true, List, ◌++◌, ℕ, ◌+◌, ◌-◌, ◌%◌, ◌≤◌, length, take, drop}
-use Rattle.lists.specs.Lists.{tab}
+use Rattle.std.specs.Prelude.{◌≡◌, Bool, true, List, ◌++◌, ℕ, ◌+◌, ◌-◌, ◌%◌, ◌≤◌, eqb, length, take, drop}
+use Rattle.lists.specs.Lists.{all_l, tab}
+
+-- every element from i on is that value
+unfoldable pub rest_is : List ℕ → ℕ → ℕ → Bool
+rest_is a i value = all_l (λ x. eqb x value) (drop i a)
 
 -- a test that answers whether something holds
 abbrev pub Tells : Bool → Type 0 → Type 0

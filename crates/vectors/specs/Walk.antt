@@ -12,6 +12,10 @@ largest = 18446744073709551615
 abbrev pub more : ℕ → ℕ
 more n = min (n + 1) 18446744073709551615
 
+-- the kind of the case at a place
+abbrev pub kind_at : List ℕ → ℕ → ℕ
+kind_at list at = get_or list (at + 4) 0
+
 -- one more of a kind, if it is to be counted; all kinds from 15 on count as one
 abbrev pub counted : List ℕ → ℕ → Bool → List ℕ
 counted counts kind wanted = cond wanted (set counts (min kind 15) (more (get_or counts (min kind 15) 0))) counts
@@ -44,6 +48,6 @@ noted list w same = record {
   leading = w.leading;
   cases = more w.cases;
   first = cond same w.first (min w.cases w.first);
-  alike = counted w.alike (kind_of (case_at list w.at)) same;
-  differ = counted w.differ (kind_of (case_at list w.at)) (not same);
+  alike = counted w.alike (kind_at list w.at) same;
+  differ = counted w.differ (kind_at list w.at) (not same);
 }

@@ -15,6 +15,17 @@ fn mask_has(fill: u8, classes: &[u8], i: usize, b: usize) -> bool
     }
 }
 
+// The bit of mask i in its table's entry b.
+fn bit(fill: u8, classes: &[u8], i: usize, b: usize) -> u8
+    requires { i < 64 }
+{
+    if mask_has(fill, classes, i, b) {
+        1u8 << (i % 8)
+    } else {
+        0
+    }
+}
+
 // An entry's bits of the masks before mask i + k, and that of mask i + k.
 fn with_mask(bits: u8, fill: u8, classes: &[u8], i: usize, b: usize, k: usize) -> u8
     requires i_bound { i < 57 }

@@ -1,6 +1,6 @@
 // Buffers of bytes, compared with a part of a case and with what they were before a call.
 ghost use Rattle.std.specs.Prelude.{◌≡◌, replicate};
-ghost use Rattle.vectors.specs.Parts.{Tells, Written, filled};
+ghost use Rattle.vectors.specs.Parts.{rest_is, Tells, Written, filled};
 
 // What a buffer was that was all zeros.
 pub fn zeros() -> [u8; 256]
@@ -18,6 +18,26 @@ pub fn filled(i: usize) -> [u8; 65536]
         bytes[k] = 128 + ((i % 128 + k % 128) % 128) as u8;
     }
     bytes
+}
+
+// Whether every byte from i on has that value.
+pub fn rest_is(a: &[u8], i: usize, value: u8) -> bool
+    ensures { result ≡ rest_is a.now i value }
+{
+    let mut k = i;
+    while k < a.len() {
+        if a[k] != value {
+            return false;
+        }
+        k += 1;
+    }
+    true
+}
+
+// Whether a buffer begins with those bytes, and every further one has that value.
+pub fn padded(a: &[u8], front: &[u8], value: u8) -> bool {
+    let n = front.len();
+    n <= a.len() && check::same(&a[0..n], front) && rest_is(a, n, value)
 }
 
 // Whether a buffer is a text, and behind it as it was before.

@@ -125,3 +125,37 @@ pub fn report(names: &[u8], list: &[u8], w: Walk, out: &mut [u8]) -> usize
     let next = end_line(out, next, list, w);
     crate::least(next, out.len())
 }
+
+// ---- printed at once
+
+fn print_number(n: usize) {
+    io::print_decimal(1, n as u64);
+}
+
+// Prints a kind's line, as `classes 1423 alike, 0 differ`.
+pub fn tell(name: &[u8], w: Walk, kind: usize)
+    requires { kind < 16 }
+{
+    io::write_all(1, name);
+    io::write_all(1, b" ");
+    print_number(w.alike[kind]);
+    io::write_all(1, b" alike, ");
+    print_number(w.differ[kind]);
+    io::write_all(1, b" differ\n");
+}
+
+// Prints which case was the first that differs, if one does, whether the list was read whole, and its checksum.
+pub fn tell_end(list: &[u8], w: Walk) {
+    if w.first < w.cases {
+        io::write_all(1, b"first that differs: case ");
+        print_number(w.first);
+        io::write_all(1, b"\n");
+    }
+    if w.at == list.len() {
+        io::write_all(1, b"list read whole, checksum ");
+    } else {
+        io::write_all(1, b"list ends early, checksum ");
+    }
+    print_number(checksum(list));
+    io::write_all(1, b"\n");
+}

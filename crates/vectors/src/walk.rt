@@ -1,7 +1,7 @@
 // A walk through a list, case by case, and what is counted on the way, by kind. The definitions are in specs/Walk.antt.
-ghost use Rattle.std.specs.Prelude.{◌≡◌, cond, ◌<◌, min, length};
+ghost use Rattle.std.specs.Prelude.{◌≡◌, cond, not, ◌<◌, min, length};
 ghost use Rattle.vectors.specs.Cases.{case_at};
-ghost use Rattle.vectors.specs.Walk.{more, counted, begun, host_of, noted};
+ghost use Rattle.vectors.specs.Walk.{more, kind_at, counted, begun, host_of, noted};
 
 // Kinds are 0 to 14; any other is counted as this one.
 const UNKNOWN: usize = 15;
@@ -64,13 +64,20 @@ fn chosen(one: bool, a: usize, b: usize) -> usize
     if one { a } else { b }
 }
 
+// Where a kind is counted.
+fn index(kind: usize) -> usize
+    ensures { result ≡ min kind 15 }
+{
+    crate::least(kind, UNKNOWN)
+}
+
 // One more of a kind, if it is to be counted.
 fn counted(counts: [usize; 16], kind: usize, wanted: bool) -> [usize; 16]
     ensures { result ≡ counted counts kind wanted }
 {
     let mut c = counts;
     if wanted {
-        let k = crate::least(kind, UNKNOWN);
+        let k = index(kind);
         c[k] = more(c[k]);
     }
     c
@@ -79,16 +86,19 @@ fn counted(counts: [usize; 16], kind: usize, wanted: bool) -> [usize; 16]
 // The next case was alike or not; and on to the one after it, or past the end of a list that has not all of it.
 pub fn noted(list: &[u8], w: Walk, same: bool) -> Walk
     ensures value { result ≡ noted list.now w same }
+    ensures counts { (result.alike ≡ counted w.alike (kind_at list.now w.at) same)
+        × (result.differ ≡ counted w.differ (kind_at list.now w.at) (not same)) }
     ensures at_lt_at { w.at < length list.now → w.at < result.at }
 {
-    let kind = crate::cases::kind(crate::cases::at(list, w.at));
+    let leads = crate::cases::kind(crate::cases::at(list, w.at)) < w.leading;
+    let kind = crate::count(list, crate::after(list, w.at, 4));
     let alike = w.alike;
     let differ = w.differ;
     let alike_now = counted(alike, kind, same);
     let differ_now = counted(differ, kind, !same);
     Walk {
         at: crate::after(list, w.at, 4 + crate::word(list, w.at)),
-        host: chosen(kind < w.leading, w.at, w.host),
+        host: chosen(leads, w.at, w.host),
         leading: w.leading,
         cases: more(w.cases),
         first: chosen(same, w.first, crate::least(w.cases, w.first)),

@@ -1,9 +1,8 @@
 // Buffers of words: unpacked from a list, and compared.
 //
 // Words in runs stand in a list as bytes, four for each run: half, how often; half, which word. The definitions are in specs/Runs.antt.
-ghost use Rattle.std.specs.Prelude.{◌≡◌, min, ◌+◌, ◌-◌, ◌≤◌, length, replicate};
+ghost use Rattle.std.specs.Prelude.{◌≡◌, true, min, ◌+◌, ◌-◌, ◌≤◌, length, replicate};
 ghost use Rattle.std.proofs.lemmas.List.Edits.{sets};
-ghost use Rattle.vectors.specs.Parts.{Tells};
 ghost use Rattle.vectors.specs.Reading.{part_at};
 ghost use Rattle.vectors.specs.Runs.{words_of};
 
@@ -21,7 +20,7 @@ fn fill(words: &mut [u16], i: usize, j: usize, value: u16)
 
 // The words of runs, written into the front of a lent buffer, as far as there is room: how many they are; one more than the buffer has, where they
 // are more.
-pub(crate) fn unpack(runs: &[u8], out: &mut [u16]) -> usize
+pub fn unpack(runs: &[u8], out: &mut [u16]) -> usize
     ensures value { result ≡ min (length (words_of runs.now)) (length out.old + 1) }
     ensures out_after { out.new ≡ sets out.old 0 (words_of runs.now) }
 {
@@ -55,7 +54,7 @@ pub fn front(words: &[u16], n: usize) -> &[u16]
 
 // Whether two buffers hold the same words.
 pub fn same(a: &[u16], b: &[u16]) -> bool
-    ensures { Tells result (a.now ≡ b.now) }
+    ensures { (result ≡ true → a.now ≡ b.now) × (a.now ≡ b.now → result ≡ true) }
 {
     let n = a.len();
     if b.len() != n {
@@ -71,7 +70,7 @@ pub fn same(a: &[u16], b: &[u16]) -> bool
 
 // The same of entries of a scan.
 pub fn same_entries(one: &[usize], other: &[usize]) -> bool
-    ensures { Tells result (one.now ≡ other.now) }
+    ensures { (result ≡ true → one.now ≡ other.now) × (one.now ≡ other.now → result ≡ true) }
 {
     let n = one.len();
     if other.len() != n {

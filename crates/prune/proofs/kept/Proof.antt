@@ -144,10 +144,10 @@ loop2-holds : tie.Need-loop-top-init invariant-loop decreases-loop invariant-loo
 loop2-holds c = let l = c.before.loop-next in (l.invariant.1.search, λ s h. l.invariant.1.seeds s (omega arith))
 
 mul-t : tie.Need-offset_bounds-stack-top-in-loop-top invariant-loop decreases-loop invariant-loop3 decreases-loop3 invariant-loop2 decreases-loop2
-mul-t c = let h = low c in omega arith
+mul-t c = let l = c.before.loop-top in let h = stack-low _ l.out l.stack l.top l.invariant.0 in omega arith
 
 array-read-t : tie.Need-bounds-stack-top-in-loop-top invariant-loop decreases-loop invariant-loop3 decreases-loop3 invariant-loop2 decreases-loop2
-array-read-t c = let h = low c in omega arith
+array-read-t c = let l = c.before.loop-top in let h = stack-low _ l.out l.stack l.top l.invariant.0 in omega arith
 
 cast_t : tie.Need-overflow_cast-t invariant-loop decreases-loop invariant-loop3 decreases-loop3 invariant-loop2 decreases-loop2
 cast_t c = let h = cur-below c in omega arith
@@ -171,13 +171,13 @@ loop2-again c =
     (looked-all _ _ _ m.p _ _ m.out m.stack m.top m.invariant (omega arith), m.invariant.seeds)
 
 mul-byte : tie.Need-overflow_mul-byte invariant-loop decreases-loop invariant-loop3 decreases-loop3 invariant-loop2 decreases-loop2
-mul-byte c = let h = cur-below (turn c) in omega arith
+mul-byte c = let h = cur-below c.before.before in omega arith
 
 add-byte : tie.Need-overflow_add-byte invariant-loop decreases-loop invariant-loop3 decreases-loop3 invariant-loop2 decreases-loop2
-add-byte c = let h = cur-below (turn c) in let k = parent-below c in omega arith
+add-byte c = let h = cur-below c.before.before in let e = c.before.before.before.before.before.before.before.states-n.ensures in omega arith
 
 array-read-byte : tie.Need-bounds-from-t invariant-loop decreases-loop invariant-loop3 decreases-loop3 invariant-loop2 decreases-loop2
-array-read-byte c = let h = cur-below (turn c) in let k = parent-below c in omega arith
+array-read-byte c = let h = cur-below c.before.before in let e = c.before.before.before.before.before.before.before.states-n.ensures in omega arith
 
 add-p : tie.Need-overflow_add-p invariant-loop decreases-loop invariant-loop3 decreases-loop3 invariant-loop2 decreases-loop2
 add-p c = let k = parent-below c.before in omega arith

@@ -13,7 +13,7 @@ use Rattle.prune.specs.Matrix.{byte_of}
 use Rattle.prune.proofs.BitRows.{Matrix, parents-none, parents-skip, parents-set, parents-row, parents-all}
 use Rattle.prune.proofs.parents.Statement.{statement}
 use Rattle.prune.proofs.parents.Tie as tie
-use Rattle.graph_rules.specs.Layout.{step_count, most_states}
+use Rattle.graph_rules.specs.Layout.{step_count, most_states, no_state}
 
 abbrev invariant-loop2 : tie.invariant-loop-c
 invariant-loop2 graph n out₀ p c₀ out c = (c ≤ step_count) × Matrix (graph_from graph) p c out
@@ -40,12 +40,13 @@ inside c =
     (omega arith, omega arith)
 
 -- the edge that the turn looks at leads to a state
-led : (c : tie.Then-t-ne-NONE invariant-loop2 decreases-loop2 invariant-loop decreases-loop) → let p = c.before.before.before.before.before in
-    (to (g p) p.loop-p.p c.before.before.before.loop-c.c ≡ some c.before.target-t.result) × (c.before.target-t.result < most_states)
-led c =
-    let p = c.before.before.before.before.before in
+led : (c : tie.After-target-t invariant-loop2 decreases-loop2 invariant-loop decreases-loop) → (c.target-t.result ≡ no_state → ⊥)
+    → let p = c.before.before.before.before in
+    (to (g p) p.loop-p.p c.before.before.loop-c.c ≡ some c.target-t.result) × (c.target-t.result < most_states)
+led c leads =
+    let p = c.before.before.before.before in
     let w = (St p).args.graph.now in
-    let (e, h) = edge-some w (St p).requires p.loop-p.p c.before.before.before.loop-c.c c.before.target-t.result c.before.target-t.ensures c.if-t-ne-NONE.true in
+    let (e, h) = edge-some w (St p).requires p.loop-p.p c.before.before.loop-c.c c.target-t.result c.target-t.ensures leads in
     let few = taken-few w (St p).requires in
     (e, omega arith)
 
@@ -64,16 +65,16 @@ target-requires c κs =
     ((St p.before).requires, ((inside p).0, omega arith))
 
 mul_at : tie.Need-overflow_mul-at invariant-loop2 decreases-loop2 invariant-loop decreases-loop
-mul_at c = omega (arith, (led c).1)
+mul_at c = omega (arith, (led c.before c.if-t-ne-NONE.true).1)
 
 add_at : tie.Need-overflow_add-at invariant-loop2 decreases-loop2 invariant-loop decreases-loop
-add_at c = omega (arith, (led c).1, (inside c.before.before.before.before).1)
+add_at c = omega (arith, (led c.before c.if-t-ne-NONE.true).1, (inside c.before.before.before.before).1)
 
 array-read-with-bit : tie.Need-bounds-out-at invariant-loop2 decreases-loop2 invariant-loop decreases-loop
-array-read-with-bit c = omega (arith, (led c).1, (inside c.before.before.before.before).1)
+array-read-with-bit c = omega (arith, (led c.before c.if-t-ne-NONE.true).1, (inside c.before.before.before.before).1)
 
 array-write-out : tie.Need-bounds-out-at-then-t-ne-NONE invariant-loop2 decreases-loop2 invariant-loop decreases-loop
-array-write-out c = omega (arith, (led c.before).1, (inside c.before.before.before.before.before).1)
+array-write-out c = omega (arith, (led c.before.before c.before.if-t-ne-NONE.true).1, (inside c.before.before.before.before.before).1)
 
 loop2-again : tie.Need-loop-c-preserved-then-t-ne-NONE invariant-loop2 decreases-loop2 invariant-loop decreases-loop
 loop2-again c =
@@ -82,7 +83,7 @@ loop2-again c =
     let p = t.before.before.before.before in (
       omega arith,
       subst (λ (x : ℕ). Matrix (g p.before) p.before.loop-p.p (l.c + 1) (set l.out (byte_of t.before.target-t.result p.before.loop-p.p) x)) (sym c.with_bit.ensures)
-          (parents-set (g p.before) p.before.loop-p.p l.c l.out l.invariant.1 t.before.target-t.result (led t).1 (inside p).1 (led t).0),
+          (parents-set (g p.before) p.before.loop-p.p l.c l.out l.invariant.1 t.before.target-t.result (led t.before t.if-t-ne-NONE.true).1 (inside p).1 (led t.before t.if-t-ne-NONE.true).0),
     )
 
 loop2-again-2 : tie.Need-loop-c-preserved invariant-loop2 decreases-loop2 invariant-loop decreases-loop

@@ -15,5 +15,5 @@ returns c =
     c.test_bit.ensures
     ∙ ap (is_set (args.i % 8)) (c.before.byte.ensures ∙ ap (byte_at list) c.before.before.after.ensures ∙ byte-held list (args.at + args.i / 8))
 
-pub bit-spec : {M : Type 1} → statement M
-bit-spec = tie.close (tie.spec (λ c κs. search rules) (λ c κs. search rules) (λ c κs. search rules) returns)
+pub bit_spec : {M : Type 1} → statement M
+bit_spec = tie.close (tie.spec (λ c κs. search rules) (λ c κs. search rules) (λ c κs. search rules) returns)

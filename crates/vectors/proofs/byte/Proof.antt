@@ -5,8 +5,8 @@ use Rattle.vectors.proofs.PastEnd.{byte_past}
 use Rattle.vectors.proofs.byte.Statement.{statement}
 use Rattle.vectors.proofs.byte.Tie as tie
 
-returns-2 : tie.Need-returns-2
-returns-2 c = sym (byte_past c.before.args.list.now _ c.if1.false)
+returns-2 : tie.Need-returns-else-at-list
+returns-2 c = sym (byte_past c.before.args.list.now _ c.if-at-list.false)
 
-pub byte-spec : {M : Type 1} → statement M
-byte-spec = tie.close (tie.spec (λ c. search rules) (λ c. search rules) returns-2)
+pub byte_spec : {M : Type 1} → statement M
+byte_spec = tie.close (tie.spec (λ c. search rules) (λ c. search rules) returns-2)

@@ -5,8 +5,8 @@ use borrow.Author.Rules.{rules}
 use Rattle.vectors.proofs.half.Statement.{statement}
 use Rattle.vectors.proofs.half.Tie as tie
 
-returns : tie.Need-returns
-returns c = (sym (half-past c.before.before.args.list.now _ c.if1.true), search rules)
+returns : tie.Need-returns-then-list-at
+returns c = (sym (half-past c.before.before.args.list.now _ c.if-list-at.true), search rules)
 
 pub half_spec : {M : Type 1} → statement M
 half_spec =

@@ -12,5 +12,5 @@ returns c =
     let a = c.before.before.before.before.args in
     rw (c.part.ensures, c.before.before.after.ensures, c.before.word.ensures.0) (part_held a.list.now (a.at + 4) _)
 
-pub at-spec : {M : Type 1} → statement M
-at-spec = tie.close (tie.spec (λ c κs. search rules) (λ c κs. search rules) (λ c κs. search rules) returns)
+pub at_spec : {M : Type 1} → statement M
+at_spec = tie.close (tie.spec (λ c κs. search rules) (λ c κs. search rules) (λ c κs. search rules) returns)

@@ -8,22 +8,22 @@ use Rattle.vectors.specs.Cases.{shaped}
 use Rattle.vectors.proofs.cases.shaped.Statement.{statement}
 use Rattle.vectors.proofs.cases.shaped.Tie as tie
 
-returns : tie.Need-returns
+returns : tie.Need-returns-then-count-numbers
 unfolding shaped
 returns c =
     let a = c.before.before.before.args in
-    rw (ne_eqb (byte_at a.case.now 1) a.numbers (λ e. c.if1.true (c.before.count.ensures.0 ∙ e)))
+    rw (ne_eqb (byte_at a.case.now 1) a.numbers (λ e. c.if-count-numbers.true (c.before.count.ensures.0 ∙ e)))
 
-returns-2 : tie.Need-returns-2
+returns-2 : tie.Need-returns-then-count-parts
 unfolding shaped
 returns-2 c =
     let a = c.before.before.before.before.before.args in
     rw (
       eq-eqb (byte_at a.case.now 1) a.numbers (omega arith),
-      ne_eqb (byte_at a.case.now 2) a.parts (λ e. c.if2.true (c.before.count2.ensures.0 ∙ e)),
+      ne_eqb (byte_at a.case.now 2) a.parts (λ e. c.if-count-parts.true (c.before.count-2.ensures.0 ∙ e)),
     )
 
-returns-3 : tie.Need-returns-3
+returns-3 : tie.Need-returns
 unfolding shaped
 returns-3 c =
     let a = c.before.before.before.before.before.before.args in
@@ -33,5 +33,5 @@ returns-3 c =
       c.end.ensures.0,
     )
 
-pub shaped-spec : {M : Type 1} → statement M
-shaped-spec = tie.close (tie.spec (λ c κs. search rules) returns (λ c κs. search rules) returns-2 (λ c κs. search rules) returns-3)
+pub shaped_spec : {M : Type 1} → statement M
+shaped_spec = tie.close (tie.spec (λ c κs. search rules) returns (λ c κs. search rules) returns-2 (λ c κs. search rules) returns-3)

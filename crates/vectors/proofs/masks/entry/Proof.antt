@@ -1,20 +1,19 @@
 -- `masks::entry` meets its contract: one mask after another. Assumes nothing.
 use borrow.Author.Rules.{rules}
-use Rattle.vectors.specs.Masks.{masked}
 use Rattle.vectors.proofs.masks.entry.Statement.{statement}
 use Rattle.vectors.proofs.masks.entry.Tie as tie
 
 returns : tie.Need-returns
 returns c =
     rw (
-      c.with-mask8.ensures,
-      c.before.with-mask7.ensures,
-      c.before.before.with-mask6.ensures,
-      c.before.before.before.with-mask5.ensures,
-      c.before.before.before.before.with-mask4.ensures,
-      c.before.before.before.before.before.with-mask3.ensures,
-      c.before.before.before.before.before.before.with-mask2.ensures,
-      c.before.before.before.before.before.before.before.with-mask.ensures,
+      c.with_mask.ensures,
+      c.before.with_mask-bits-7.ensures,
+      c.before.before.with_mask-bits-6.ensures,
+      c.before.before.before.with_mask-bits-5.ensures,
+      c.before.before.before.before.with_mask-bits-4.ensures,
+      c.before.before.before.before.before.with_mask-bits-3.ensures,
+      c.before.before.before.before.before.before.with_mask-bits-2.ensures,
+      c.with_mask-bits.ensures,
     )
 
 pub entry_spec : {M : Type 1} → statement M

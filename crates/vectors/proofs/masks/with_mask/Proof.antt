@@ -6,7 +6,7 @@ use Rattle.vectors.proofs.masks.with_mask.Tie as tie
 
 returns : tie.Need-returns
 unfolding with_mask
-returns c = rw (c.with-bit.ensures, c.before.mask-has.ensures)
+returns c = rw (c.with_bit.ensures, c.before.mask_has.ensures)
 
-pub with-mask-spec : {M : Type 1} → statement M
-with-mask-spec = tie.close (tie.spec (λ c. search rules) (λ c κs. search rules) (λ c κs. search rules) returns)
+pub with_mask_spec : {M : Type 1} → statement M
+with_mask_spec = tie.close (tie.spec (λ c. search rules) (λ c κs. search rules) (λ c κs. search rules) returns)

@@ -9,21 +9,21 @@ use Rattle.vectors.specs.Parts.{fill_at, filled as bytes_of}
 use Rattle.vectors.proofs.parts.filled.Statement.{statement}
 use Rattle.vectors.proofs.parts.filled.Tie as tie
 
-abbrev invariant-loop : tie.invariant-loop
+abbrev invariant-loop : tie.invariant-loop-k
 invariant-loop i bytes₀ k₀ bytes k = Tabled 0 65536 (fill_at i) bytes k
 
-abbrev decreases-loop : tie.decreases-loop
+abbrev decreases-loop : tie.decreases-loop-k
 decreases-loop i bytes₀ k₀ bytes k = 65536 - k
 
-loop-holds : tie.Need-loop-init invariant-loop decreases-loop
+loop-holds : tie.Need-loop-k-init invariant-loop decreases-loop
 loop-holds c = tabled-none _ _ _ _ (length-replicate {A = ℕ} 65536 0)
 
-loop-again : tie.Need-loop-preserved invariant-loop decreases-loop
-loop-again c = tabled-one _ _ _ _ c.before.loop.invariant (omega arith) refl
+loop-again : tie.Need-loop-k-preserved invariant-loop decreases-loop
+loop-again c = tabled-one _ _ _ _ c.before.loop-k.invariant (omega arith) refl
 
 returns : tie.Need-returns invariant-loop decreases-loop
 unfolding bytes_of
-returns c = tabled-all _ _ _ c.before.loop.invariant (omega arith)
+returns c = tabled-all _ _ _ c.before.loop-k.invariant (omega arith)
 
-pub filled-spec : {M : Type 1} → statement M
-filled-spec = tie.close (tie.spec invariant-loop decreases-loop loop-holds (λ c. search rules) (λ c. search rules) (λ c. search rules) (λ c. search rules) (λ c. search rules) (λ c. search rules) loop-again returns)
+pub filled_spec : {M : Type 1} → statement M
+filled_spec = tie.close (tie.spec invariant-loop decreases-loop loop-holds (λ c. search rules) (λ c. search rules) (λ c. search rules) (λ c. search rules) (λ c. search rules) (λ c. search rules) loop-again returns)

@@ -6,8 +6,8 @@ use lib.ListN.{get_or-eq_default}
 use Rattle.vectors.proofs.report.count.Statement.{statement}
 use Rattle.vectors.proofs.report.count.Tie as tie
 
-returns-2 : tie.Need-returns-2
-returns-2 c = sym (get_or-eq_default c.before.args.t1 0 (omega arith))
+returns-2 : tie.Need-returns-else-kind-lt16
+returns-2 c = sym (get_or-eq_default c.before.args.counts 0 (omega arith))
 
 pub count_spec : {M : Type 1} → statement M
 count_spec = tie.close (tie.spec (λ c. search rules) (λ c. search rules) (λ c. search rules) returns-2)

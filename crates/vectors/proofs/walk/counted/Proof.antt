@@ -3,8 +3,8 @@ use borrow.Author.Rules.{rules}
 use Rattle.vectors.proofs.walk.counted.Statement.{statement}
 use Rattle.vectors.proofs.walk.counted.Tie as tie
 
-returns : tie.Need-returns
-returns c = simp (c.before.before.if1.true, c.more.ensures, c.before.least.ensures)
+returns : tie.Need-returns-then-wanted
+returns c = simp (c.before.before.if-wanted.true, c.more.ensures, c.before.index-k.ensures)
 
 pub counted_spec : {M : Type 1} → statement M
 counted_spec =

@@ -9,22 +9,22 @@ use Rattle.lists.proofs.Runs.{sets-fill}
 use Rattle.vectors.proofs.words.fill.Statement.{statement}
 use Rattle.vectors.proofs.words.fill.Tie as tie
 
-abbrev invariant-loop : tie.invariant-loop
+abbrev invariant-loop : tie.invariant-loop-k
 invariant-loop words₀ i j value k₀ words k =
     (i ≤ k) × (k - i ≤ j - i) × (length words ≡ length words₀) × (words ≡ sets words₀ i (replicate (k - i) value))
 
-abbrev decreases-loop : tie.decreases-loop
+abbrev decreases-loop : tie.decreases-loop-k
 decreases-loop words₀ i j value k₀ words k = j - k
 
-loop-holds : tie.Need-loop-init invariant-loop decreases-loop
+loop-holds : tie.Need-loop-k-init invariant-loop decreases-loop
 loop-holds c =
     let i = c.args.i in
     let e : i - i ≡ 0 = omega arith in
     (omega arith, omega arith, refl, ap (λ (k : ℕ). sets c.args.words.now i (replicate k c.args.value)) (sym e))
 
-loop-again : tie.Need-loop-preserved invariant-loop decreases-loop
+loop-again : tie.Need-loop-k-preserved invariant-loop decreases-loop
 loop-again c =
-    let l = c.before.loop in
+    let l = c.before.loop-k in
     let args = c.before.before.args in
     let w = args.words.now in
     let i = args.i in
@@ -38,7 +38,7 @@ loop-again c =
 
 returns : tie.Need-returns invariant-loop decreases-loop
 returns c =
-    let l = c.before.loop in
+    let l = c.before.loop-k in
     let args = c.before.before.args in
     let e : l.k - args.i ≡ args.j - args.i = omega arith in
     l.invariant.3 ∙ ap (λ (k : ℕ). sets args.words.now args.i (replicate k args.value)) e

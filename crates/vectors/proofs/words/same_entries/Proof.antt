@@ -1,39 +1,39 @@
 -- `words::same_entries` meets its contract. The invariant: the entries below k are equal; the measure is what is left. Assumes nothing.
 use native.Mathlib.Omega.{arith}
 use mathlib.Core.Path.{◌≡◌}
-use Prim.Native.Nat.{◌-◌, ◌≤◌}
+use Prim.Native.Nat.{◌-◌}
 use lib.ListN.{length}
 use borrow.Author.Rules.{rules}
 use Rattle.vectors.proofs.Equal.{EqualBelow, equal-more, tells-longer, tells-other, tells-equal}
 use Rattle.vectors.proofs.words.same_entries.Statement.{statement}
 use Rattle.vectors.proofs.words.same_entries.Tie as tie
 
-abbrev invariant-loop : tie.invariant-loop
+abbrev invariant-loop : tie.invariant-loop-k
 invariant-loop one other n k₀ k = (n ≡ length one) × (length other ≡ length one) × EqualBelow one other k
 
-abbrev decreases-loop : tie.decreases-loop
+abbrev decreases-loop : tie.decreases-loop-k
 decreases-loop one other n k₀ k = n - k
 
-returns : tie.Need-returns invariant-loop decreases-loop
-returns c = tells-longer _ _ c.if1.true
+returns : tie.Need-returns-then-other-n invariant-loop decreases-loop
+returns c = tells-longer _ _ c.if-other-n.true
 
-loop-holds : tie.Need-loop-init invariant-loop decreases-loop
+loop-holds : tie.Need-loop-k-init invariant-loop decreases-loop
 loop-holds c = (search rules, search rules, λ i h. absurd (omega arith))
 
-returns-2 : tie.Need-returns-2 invariant-loop decreases-loop
-returns-2 c = tells-other _ _ _ c.if2.true
+returns-2 : tie.Need-returns-then-one-k invariant-loop decreases-loop
+returns-2 c = tells-other _ _ _ c.if-one-k.true
 
-loop-again : tie.Need-loop-preserved invariant-loop decreases-loop
+loop-again : tie.Need-loop-k-preserved invariant-loop decreases-loop
 loop-again c =
     let at = c.before.before.before.before in
     let args = at.before.before.args in
-    (at.loop.invariant.0, at.loop.invariant.1, equal-more args.one.now args.other.now at.loop.k at.loop.invariant.2 c.if2.false)
+    (at.loop-k.invariant.0, at.loop-k.invariant.1, equal-more args.one.now args.other.now at.loop-k.k at.loop-k.invariant.2 c.if-one-k.false)
 
-returns-3 : tie.Need-returns-3 invariant-loop decreases-loop
-returns-3 c = let l = c.before.loop in tells-equal _ _ l.k l.invariant.1 (omega arith) l.invariant.2
+returns-3 : tie.Need-returns invariant-loop decreases-loop
+returns-3 c = let l = c.before.loop-k in tells-equal _ _ l.k l.invariant.1 (omega arith) l.invariant.2
 
-pub same-entries-spec : {M : Type 1} → statement M
-same-entries-spec =
+pub same_entries_spec : {M : Type 1} → statement M
+same_entries_spec =
     tie.close
     (tie.spec invariant-loop decreases-loop returns loop-holds (λ c. search rules) (λ c. search rules) (λ c. search rules) (λ c. search rules) returns-2
     (λ c. search rules) (λ c. search rules) loop-again returns-3)
