@@ -1,6 +1,5 @@
 -- What the code answers of one record in the greedy test. Definitions only.
 use Rattle.std.specs.Prelude.{Bool, false, ◌&&◌, List, [], ◌∷◌, ℕ, eqb, get_or}
-use Rattle.trees.specs.Layout.{class_kind, dot_flag, greedy_flag, unbounded_flag}
 use Rattle.trees.specs.Tree.{flag}
 use Rattle.trees.specs.declared.tree.Record.{Record}
 

@@ -3,7 +3,6 @@ ghost use Rattle.std.specs.Prelude.{◌≡◌, true, cond, ◌++◌, suc, ◌+�
 ghost use Rattle.lists.specs.Lists.{eq_list};
 ghost use Rattle.graph_rules.specs.Graph.{graph_fits, graph_from, state_of};
 ghost use Rattle.edges.specs.Edges.{class_to};
-ghost use Rattle.mask_store.specs.Layout.{store_size, most_masks};
 ghost use Rattle.mask_store.specs.Masks.{store_of, held, number_of};
 ghost use Rattle.plan_rules.specs.Plan.{base, way_to, way_word, plan_row, plan_words, plan_size};
 

@@ -2,7 +2,6 @@
 use Rattle.std.specs.Prelude.{Bool, true, false, ◌&&◌, ◌||◌, List, [], ◌∷◌, ℕ, zero, suc, ◌+◌, eqb, leb, ltb, length, get_or, take, drop}
 use Rattle.std.proofs.Math.Option.{Option, none, some}
 use Rattle.lists.specs.Lists.{all_l, pieces, eq_list}
-use Rattle.graph_rules.specs.Layout.{end_step}
 use Rattle.graph_rules.specs.Graph.{State, Graph, state_of, to, accept_of, early_of}
 use Rattle.graph_rules.specs.Read.{Reading, mark, late, onward}
 use Rattle.classes.specs.Classes.{comparisons, some_holds}

@@ -10,23 +10,23 @@ use Rattle.clean.proofs.tied.Statement.{statement}
 use Rattle.clean.proofs.tied.Tie as tie
 use Rattle.graph_rules.specs.Layout.{no_leaf}
 
-mul-if1 : tie.Need-overflow-mul-if1
+mul-if1 : tie.Need-offset_bounds-leaf-s
 mul-if1 c = let z = legal-sized _ c.before.requires.0 in omega arith
 
-element-copy-out-if1 : tie.Need-element-copy-out-if1
-element-copy-out-if1 c = let z = legal-sized _ c.before.requires.0 in omega arith
+element-copy-out-if1 : tie.Need-bounds-leaf-s
+element-copy-out-if1 c = let z = legal-sized _ c.before.before.requires.0 in omega arith
 
-returns : tie.Need-returns
+returns : tie.Need-returns-then-leaf-s-ne-NO_LEAF
 returns c =
-    let at = c.before.before.before in
-    let s = at.args.s in
-    sym (tied-leaf (table_of at.args.table.now) s _ (sym (at.requires.1.0 s at.requires.1.1) ∙ or-number no_leaf _ c.if1.true))
-
-returns-2 : tie.Need-returns-2
-returns-2 c =
     let at = c.before.before.before.before in
     let s = at.args.s in
-    tied-head (table_of at.args.table.now) s (sym (at.requires.1.0 s at.requires.1.1) ∙ or-none no_leaf _ c.before.if1.false) c.head.result c.head.ensures.0
+    sym (tied-leaf (table_of at.args.table.now) s _ (sym (at.requires.1.0 s at.requires.1.1) ∙ or-number no_leaf _ c.if-leaf-s-ne-NO_LEAF.true))
 
-pub tied-spec : {M : Type 1} → statement M
-tied-spec = tie.close (tie.spec mul-if1 element-copy-out-if1 returns (λ c κs. search rules) returns-2)
+returns-2 : tie.Need-returns
+returns-2 c =
+    let at = c.before.before.before.before.before in
+    let s = at.args.s in
+    tied-head (table_of at.args.table.now) s (sym (at.requires.1.0 s at.requires.1.1) ∙ or-none no_leaf _ c.before.if-leaf-s-ne-NO_LEAF.false) c.head.result c.head.ensures.0
+
+pub tied_spec : {M : Type 1} → statement M
+tied_spec = tie.close (tie.spec mul-if1 element-copy-out-if1 returns (λ c κs. search rules) returns-2)

@@ -94,7 +94,7 @@ loop2-again c =
       passed-mark (g (at t)) (at t).loop-p.p l.c l.out l.invariant.1 (u t) (omega arith) (
         e,
         leaves-differ w (St (at t)).requires (at t).loop-p.p (u t) c.before.accept.result t.before.before.before.early-leaf.result
-            c.before.accept.ensures.0 t.before.before.before.early-leaf.ensures.0 (eqb-false _ _ c.if-accept-leaf.true),
+            c.before.accept.ensures.0 t.before.before.before.early-leaf.ensures.0 c.if-accept-leaf.true,
       ),
     )
 
@@ -109,7 +109,7 @@ loop2-again-2 c =
       passed-skip (g (at t)) s l.c l.out l.invariant.1
           (⊎_elim
           (λ v x y.
-          let e : v.accept.result ≡ t.before.before.before.early-leaf.result = eqb-true _ _ v.if-accept-leaf.false in
+          let e : v.accept.result ≡ t.before.before.before.early-leaf.result = v.if-accept-leaf.false in
           let same : u t ≡ x = some_inj (sym (leads t v.if-u-ne-NONE.true).0 ∙ y.0) in
           false≢true (sym (subst (λ (z : ℕ). eq_option (early_of (g (at t)) s) (accept_of (g (at t)) z) ≡ false) (sym same) y.1)
           ∙ leaves-agree w taken s (u t) v.accept.result t.before.before.before.early-leaf.result v.accept.ensures.0 t.before.before.before.early-leaf.ensures.0 e))

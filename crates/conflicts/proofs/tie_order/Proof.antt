@@ -9,67 +9,67 @@ use Rattle.conflicts.proofs.Orders.{Sorting, sorting-none, sorting-order, sortin
 use Rattle.conflicts.proofs.tie_order.Statement.{statement}
 use Rattle.conflicts.proofs.tie_order.Tie as tie
 
-abbrev invariant-loop : tie.invariant-loop
+abbrev invariant-loop : tie.invariant-loop-s
 invariant-loop table set order₀ count₀ s₀ order count s = Sorting table set s order count
 
-abbrev decreases-loop : tie.decreases-loop
+abbrev decreases-loop : tie.decreases-loop-s
 decreases-loop table set order₀ count₀ s₀ order count s = s
 
-states-requires : tie.Need-states-requires invariant-loop decreases-loop
+states-requires : tie.Need-states-s-requires invariant-loop decreases-loop
 states-requires c κs = let z = legal-sized _ c.before.requires in omega arith
 
-loop-holds : tie.Need-loop-init invariant-loop decreases-loop
+loop-holds : tie.Need-loop-s-init invariant-loop decreases-loop
 loop-holds c =
-    let at = c.before.before.args in sorting-none at.table.now at.set.now c.states.result c.states.ensures.0
+    let at = c.before.before.args in sorting-none at.table.now at.set.now c.states-s.result c.states-s.ensures.0
 
-slot-of-requires : tie.Need-slot-of-requires invariant-loop decreases-loop
+slot-of-requires : tie.Need-slot_of-p-requires invariant-loop decreases-loop
 slot-of-requires c κs =
     let at = c.before.before.before.before.before.before.before in
-    let l = c.before.before.before.before.loop in
-    (at.requires, (l.invariant.long, (c.before.before.tied.ensures.1, sorting-order at.args.table.now at.requires at.args.set.now l.s l.order l.count l.invariant)))
+    let l = c.before.before.before.before.loop-s in
+    (at.requires, (l.invariant.long, (c.before.before.tied-i.ensures.1, sorting-order at.args.table.now at.requires at.args.set.now l.s l.order l.count l.invariant)))
 
-cast-put-in : tie.Need-overflow-cast-put-in invariant-loop decreases-loop
+cast-put-in : tie.Need-overflow_cast-i invariant-loop decreases-loop
 cast-put-in c =
     let z = legal-sized _ c.before.before.before.before.before.before.before.before.before.requires in
-    let b = c.before.before.before.before.tied.ensures.1 in
+    let b = c.before.before.before.before.tied-i.ensures.1 in
     omega arith
 
-put-in-requires : tie.Need-put-in-requires invariant-loop decreases-loop
+put-in-requires : tie.Need-put_in-requires invariant-loop decreases-loop
 put-in-requires c κs =
-    let l = c.before.before.before.before.before.before.loop in
+    let l = c.before.before.before.before.before.before.loop-s in
     let z = legal-sized _ c.before.before.before.before.before.before.before.before.before.requires in
     let f = l.invariant.few in
-    (l.invariant.long, (omega arith, c.before.slot_of.ensures.1))
+    (l.invariant.long, (omega arith, c.before.slot_of-p.ensures.1))
 
-add-count : tie.Need-overflow-add-count invariant-loop decreases-loop
+add-count : tie.Need-overflow_add-count invariant-loop decreases-loop
 add-count c =
     let z = legal-sized _ c.before.before.before.before.before.before.before.before.before.before.requires in omega arith
 
-loop-again : tie.Need-loop-preserved invariant-loop decreases-loop
+loop-again : tie.Need-loop-s-preserved-then-i-ne0 invariant-loop decreases-loop
 loop-again c =
-    let slot = c.before.before.slot_of in
-    let i = c.before.before.before.before.before.tied in
-    let l = c.before.before.before.before.before.before.before.loop in
+    let slot = c.before.before.slot_of-p in
+    let i = c.before.before.before.before.before.tied-i in
+    let l = c.before.before.before.before.before.before.before.loop-s in
     let at = c.before.before.before.before.before.before.before.before.before.before in
     let w = at.args.table.now in
     let set = at.args.set.now in
     subst (λ (o : List ℕ). Sorting w set (l.s - 1) o (l.count + 1)) (sym c.put_in.ensures)
     (sorting-more w at.requires set l.s l.order l.count l.invariant (omega arith) i.result slot.result i.ensures.1 slot.ensures.0 slot.ensures.1
-    (down-tied w at.requires set l.s (omega arith) l.invariant.inside i.result i.ensures.0 c.before.before.before.before.if1.true))
+    (down-tied w at.requires set l.s (omega arith) l.invariant.inside i.result i.ensures.0 c.before.before.before.before.if-i-ne0.true))
 
-loop-again-2 : tie.Need-loop-preserved-2 invariant-loop decreases-loop
+loop-again-2 : tie.Need-loop-s-preserved invariant-loop decreases-loop
 loop-again-2 c =
-    let i = c.before.tied in
-    let l = c.before.before.before.loop in
+    let i = c.before.tied-i in
+    let l = c.before.before.before.loop-s in
     let at = c.before.before.before.before.before.before in
     let w = at.args.table.now in
     let set = at.args.set.now in
     sorting-pass w at.requires set l.s l.order l.count l.invariant (omega arith)
-    (down-free w at.requires set l.s (omega arith) l.invariant.inside i.result i.ensures.0 c.if1.false)
+    (down-free w at.requires set l.s (omega arith) l.invariant.inside i.result i.ensures.0 c.if-i-ne0.false)
 
 returns : tie.Need-returns invariant-loop decreases-loop
 returns c =
-    let l = c.before.loop in
+    let l = c.before.loop-s in
     let at = c.before.before.before.before in
     let w = at.args.table.now in
     let set = at.args.set.now in
@@ -77,8 +77,8 @@ returns c =
     let d : Sorting w set 0 l.order l.count = subst (λ (s : ℕ). Sorting w set s l.order l.count) z l.invariant in
     (sorting-done w set l.order l.count d, d.held)
 
-pub tie-order-spec : {M : Type 1} → statement M
-tie-order-spec =
+pub tie_order_spec : {M : Type 1} → statement M
+tie_order_spec =
     tie.close
     (tie.spec invariant-loop decreases-loop states-requires loop-holds (λ c. omega arith) (λ c κs. omega arith) slot-of-requires cast-put-in
     put-in-requires add-count (λ c. omega arith) loop-again (λ c. omega arith) loop-again-2 returns)

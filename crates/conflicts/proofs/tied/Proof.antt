@@ -1,7 +1,6 @@
 -- A tie has a top record and a second one of its priority. Assumes nothing.
 use mathlib.Core.Path.{sym, ap, ◌∙◌}
 use native.Mathlib.Omega.{arith}
-use borrow.Author.Tests.{not-true, not-false}
 use Rattle.graph_rules.specs.Table.{table_of}
 use Rattle.leaves.specs.Chains.{next_tied}
 use Rattle.legal.proofs.Legal.{legal-sized}
@@ -10,40 +9,40 @@ use borrow.Author.Rules.{rules}
 use Rattle.conflicts.proofs.tied.Statement.{statement}
 use Rattle.conflicts.proofs.tied.Tie as tie
 
-element-copy-out-if1 : tie.Need-element-copy-out-if1
-element-copy-out-if1 c = let z = legal-sized _ c.before.requires.0 in omega arith
+element-copy-out-if1 : tie.Need-bounds-set-s
+element-copy-out-if1 c = let z = legal-sized _ c.before.before.requires.0 in omega arith
 
-returns : tie.Need-returns
+returns : tie.Need-returns-then-not-set-s
 returns c =
-    let at = c.before.before.before in
-    let q = tied_out at.args.table.now at.requires.0 at.args.set.now at.args.s (not-true _ c.if1.true) in
+    let at = c.before.before.before.before in
+    let q = tied_out at.args.table.now at.requires.0 at.args.set.now at.args.s c.if-not-set-s.true in
     omega arith
 
-returns-2 : tie.Need-returns-2
+returns-2 : tie.Need-returns-then-i-eq0
 returns-2 c =
-    let at = c.before.before.before.before.before in
-    let e = c.before.top.ensures.0 in
-    let q = tied-none at.args.table.now at.requires.0 at.args.set.now at.args.s (sym e ∙ c.if2.true) in
+    let at = c.before.before.before.before.before.before in
+    let e = c.before.top-i.ensures.0 in
+    let q = tied-none at.args.table.now at.requires.0 at.args.set.now at.args.s (sym e ∙ c.if-i-eq0.true) in
     omega arith
 
-returns-3 : tie.Need-returns-3
+returns-3 : tie.Need-returns-then-next_tied-eq0
 returns-3 c =
-    let at = c.before.before.before.before.before.before.before in
+    let at = c.before.before.before.before.before.before.before.before in
     let w = at.args.table.now in
-    let e = c.before.before.before.top.ensures.0 in
-    let n = ap (next_tied (table_of w)) (sym e) ∙ sym c.before.next-tied.ensures.0 ∙ c.if3.true in
+    let e = c.before.before.before.top-i.ensures.0 in
+    let n = ap (next_tied (table_of w)) (sym e) ∙ sym c.before.next_tied.ensures.0 ∙ c.if-next_tied-eq0.true in
     let q = tied-one w at.requires.0 at.args.set.now at.args.s (omega arith) n in
     omega arith
 
-returns-4 : tie.Need-returns-4
+returns-4 : tie.Need-returns
 returns-4 c =
-    let at = c.before.before.before.before.before.before.before in
+    let at = c.before.before.before.before.before.before.before.before in
     let w = at.args.table.now in
-    let e = c.before.before.before.top.ensures.0 in
-    let n = c.before.next-tied.ensures.0 ∙ ap (next_tied (table_of w)) e in
-    let q = tied-two w at.requires.0 at.args.set.now at.args.s (omega arith) (not-false _ c.before.before.before.before.if1.false) (omega arith) in
+    let e = c.before.before.before.top-i.ensures.0 in
+    let n = c.before.next_tied.ensures.0 ∙ ap (next_tied (table_of w)) e in
+    let q = tied-two w at.requires.0 at.args.set.now at.args.s (omega arith) c.before.before.before.before.if-not-set-s.false (omega arith) in
     omega arith
 
-pub tied-spec : {M : Type 1} → statement M
-tied-spec =
+pub tied_spec : {M : Type 1} → statement M
+tied_spec =
     tie.close (tie.spec element-copy-out-if1 returns (λ c κs. search rules) returns-2 (λ c κs. search rules) returns-3 returns-4)

@@ -9,6 +9,6 @@ returns : tie.Need-returns
 unfolding flat_map
 returns c = sets-front c.args.errors.now (0 ∷ (0 ∷ [])) c.requires
 
-pub write-no-start-spec : {M : Type 1} → statement M
-write-no-start-spec =
+pub write_no_start_spec : {M : Type 1} → statement M
+write_no_start_spec =
     tie.close (tie.spec (λ c. search rules) (λ c. search rules) (λ c. search rules) returns)

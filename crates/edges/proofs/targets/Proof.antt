@@ -14,16 +14,16 @@ use Rattle.edges.proofs.targets.Statement.{statement}
 use Rattle.edges.proofs.targets.Tie as tie
 use Rattle.graph_rules.specs.Layout.{end_step, most_states}
 
-abbrev invariant-loop : tie.invariant-loop
+abbrev invariant-loop : tie.invariant-loop-b
 invariant-loop graph s found₀ b₀ found b = Marking (bytes_of (state_of (graph_from graph) s)) found b
 
-abbrev decreases-loop : tie.decreases-loop
+abbrev decreases-loop : tie.decreases-loop-b
 decreases-loop graph s found₀ b₀ found b = 256 - b
 
 wide : (s : tie.Start invariant-loop decreases-loop) → end_step ≤ length (state_of (graph_from s.args.graph.now) s.args.s).steps
 wide s = omega (arith, from-width s.args.graph.now (taken-long s.args.graph.now s.requires.0) s.args.s s.requires.1)
 
-loop-holds : tie.Need-loop-init invariant-loop decreases-loop
+loop-holds : tie.Need-loop-b-init invariant-loop decreases-loop
 loop-holds c =
     record {
       within = omega arith;
@@ -31,28 +31,28 @@ loop-holds c =
       marked = λ u k. get_or-replicate most_states u false false k;
     }
 
-loop-again : tie.Need-loop-preserved invariant-loop decreases-loop
+loop-again : tie.Need-loop-b-preserved-then-u-lt-STATES invariant-loop decreases-loop
 unfolding to
 loop-again c =
     let at = c.before.before.before in
     let s = at.before.before in
-    mark-more (state_of (graph_from s.args.graph.now) s.args.s) (wide s) (omega arith) at.loop.invariant _ c.before.target.ensures (omega arith)
+    mark-more (state_of (graph_from s.args.graph.now) s.args.s) (wide s) (omega arith) at.loop-b.invariant _ c.before.target-u.ensures (omega arith)
 
-loop-again-2 : tie.Need-loop-preserved-2 invariant-loop decreases-loop
+loop-again-2 : tie.Need-loop-b-preserved invariant-loop decreases-loop
 unfolding to
 loop-again-2 c =
     let at = c.before.before.before in
     let s = at.before.before in
-    mark-none (state_of (graph_from s.args.graph.now) s.args.s) (wide s) (omega arith) at.loop.invariant _ c.before.target.ensures c.if1.false
+    mark-none (state_of (graph_from s.args.graph.now) s.args.s) (wide s) (omega arith) at.loop-b.invariant _ c.before.target-u.ensures c.if-u-lt-STATES.false
 
 returns : tie.Need-returns invariant-loop decreases-loop
 returns c =
     let at = c.before in
     let s = at.before.before in
-    marked_all (state_of (graph_from s.args.graph.now) s.args.s) (wide s) c.loop-test.false at.loop.invariant
+    marked_all (state_of (graph_from s.args.graph.now) s.args.s) (wide s) c.loop-b-test.false at.loop-b.invariant
 
-pub targets-spec : {M : Type 1} → statement M
-targets-spec =
+pub targets_spec : {M : Type 1} → statement M
+targets_spec =
     tie.close
     (tie.spec invariant-loop decreases-loop loop-holds (λ c κs. search rules) (λ c. omega arith) (λ c. omega arith) (λ c. omega arith) loop-again
     (λ c. omega arith) loop-again-2 returns)

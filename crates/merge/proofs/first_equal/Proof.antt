@@ -13,55 +13,55 @@ use Rattle.merge.proofs.Twins.{states-same}
 use Rattle.merge.proofs.first_equal.Statement.{statement}
 use Rattle.merge.proofs.first_equal.Tie as tie
 
-abbrev invariant-loop : tie.invariant-loop
+abbrev invariant-loop : tie.invariant-loop-e
 invariant-loop graph stay s e₀ e = (e ≤ s) × ((j : ℕ) → j < e → state_of (graph_from graph) j ≡ state_of (graph_from graph) s → ⊥)
 
-abbrev decreases-loop : tie.decreases-loop
+abbrev decreases-loop : tie.decreases-loop-e
 decreases-loop graph stay s e₀ e = s - e
 
-abbrev St : tie.At-loop invariant-loop decreases-loop → tie.Start invariant-loop decreases-loop
+abbrev St : tie.At-loop-e invariant-loop decreases-loop → tie.Start invariant-loop decreases-loop
 St c = c.before.before
 
-loop-holds : tie.Need-loop-init invariant-loop decreases-loop
+loop-holds : tie.Need-loop-e-init invariant-loop decreases-loop
 loop-holds c = (omega arith, λ j h. absurd (not-suc-le-zero h))
 
-element-copy-out-if1 : tie.Need-element-copy-out-if1 invariant-loop decreases-loop
+element-copy-out-if1 : tie.Need-bounds-stay-e invariant-loop decreases-loop
 element-copy-out-if1 c =
-    let a = St c.before in let h = a.pre.1.0 in omega (arith, taken-few a.args.graph.now a.pre.0)
+    let a = St c.before.before in let h = a.requires.1.0 in omega (arith, taken-few a.args.graph.now a.requires.0)
 
 equal-requires : tie.Need-equal-requires invariant-loop decreases-loop
 equal-requires c κs =
-    let a = St c.before.before.before in
-    let h = a.pre.1.0 in
-    (a.pre.0, (omega arith, h))
+    let a = St c.before.before.before.before in
+    let h = a.requires.1.0 in
+    (a.requires.0, (omega arith, h))
 
-returns : tie.Need-returns invariant-loop decreases-loop
+returns : tie.Need-returns-then-equal invariant-loop decreases-loop
 returns c =
     record {
       within = omega arith;
-      equal = same-sound.eq _ _ (sym c.before.equal.ensures ∙ c.if2.true);
-      before = c.before.before.before.before.before.loop.invariant.1;
+      equal = same-sound.eq _ _ (sym c.before.equal.ensures ∙ c.if-equal.true);
+      before = c.before.before.before.before.before.before.loop-e.invariant.1;
     }
 
-loop-again : tie.Need-loop-preserved invariant-loop decreases-loop
+loop-again : tie.Need-loop-e-preserved invariant-loop decreases-loop
 loop-again c =
-    let t = c.before.before in
-    let l = t.before.loop in (
+    let t = c.before.before.before in
+    let l = t.before.loop-e in (
       omega arith,
       below_more _ l.e l.invariant.1
           (⊎_elim
-          (λ v q. false≢true (sym v.2.left ∙ v.1.ensures ∙ states-same _ _ q))
-          (λ v q. let (f, b, x) = (St t.before).pre.1.1 l.e t.loop-test.true v.left in l.invariant.1 f b (x ∙ q))
-          c.if1.branch),
+          (λ v q. false≢true (sym v.if-equal.false ∙ v.equal.ensures ∙ states-same _ _ q))
+          (λ v q. let (f, b, x) = (St t.before).requires.1.1 l.e t.loop-e-test.true v.if-stay-e.false in l.invariant.1 f b (x ∙ q))
+          c.else-stay-e.branch-raw),
     )
 
-returns-2 : tie.Need-returns-2 invariant-loop decreases-loop
+returns-2 : tie.Need-returns invariant-loop decreases-loop
 returns-2 c =
-    let l = c.before.loop in
+    let l = c.before.loop-e in
     record { within = omega arith; equal = refl; before = λ j b. l.invariant.1 j (omega arith) }
 
-pub first-equal-spec : {M : Type 1} → statement M
-first-equal-spec =
+pub first_equal_spec : {M : Type 1} → statement M
+first_equal_spec =
     tie.close
     (tie.spec invariant-loop decreases-loop loop-holds element-copy-out-if1 equal-requires returns (λ c. omega arith) (λ c. omega arith) loop-again
     returns-2)

@@ -31,7 +31,7 @@ few : (c : tie.At-loop invariant-loop decreases-loop) → get_or (w₀ c) 0 0 �
 few c = taken-few (w₀ c) (St c).requires
 
 -- what the round has made of the words
-module _ (c : tie.After-merge-round invariant-loop decreases-loop) where
+module _ (c : tie.After-merge_round invariant-loop decreases-loop) where
   abbrev at : tie.At-loop invariant-loop decreases-loop
   at = c.before.before
 
@@ -41,45 +41,45 @@ module _ (c : tie.After-merge-round invariant-loop decreases-loop) where
   abbrev round : List ℕ
   round = rewritten merge_round w
 
-  merged_some : c.merge-round.result ≡ true → merges_none (graph_from w) ≡ false
-  merged_some e = not-true _ (sym c.merge-round.ensures.0 ∙ e)
+  merged_some : c.merge_round.result ≡ true → merges_none (graph_from w) ≡ false
+  merged_some e = not-true _ (sym c.merge_round.ensures.0 ∙ e)
 
-  merged-none : c.merge-round.result ≡ false → merges_none (graph_from w) ≡ true
-  merged-none e = not-false _ (sym c.merge-round.ensures.0 ∙ e)
+  merged-none : c.merge_round.result ≡ false → merges_none (graph_from w) ≡ true
+  merged-none e = not-false _ (sym c.merge_round.ensures.0 ∙ e)
 
-  after : (b : Bool) → merges_none (graph_from w) ≡ b → c.merge-round.new.0 ≡ cond b w round
-  after b e = c.merge-round.ensures.1.0 ∙ ap (λ (x : Bool). cond x w round) e
+  after : (b : Bool) → merges_none (graph_from w) ≡ b → c.merge_round.new.graph ≡ cond b w round
+  after b e = c.merge_round.ensures.1.0 ∙ ap (λ (x : Bool). cond x w round) e
 
 loop-holds : tie.Need-loop-init invariant-loop decreases-loop
 loop-holds c =
-    merging-none c.before.args.graph.now c.before.requires (λ i. omega (arith, c.slice-known.given i))
+    merging-none c.before.args.graph.now c.before.requires (λ i. omega (arith, c.slice_known-1.given i))
 
-merge-round-requires : tie.Need-merge-round-requires invariant-loop decreases-loop
+merge-round-requires : tie.Need-merge_round-requires invariant-loop decreases-loop
 merge-round-requires c κs = c.before.loop.invariant.taken
 
 loop-less : tie.Need-loop-smaller invariant-loop decreases-loop
 loop-less c =
     let t = c.before.before.before in
-    let e = merged_some t (not-false _ c.if1.false) in
-    merging-less (w₀ (at t)) (few (at t)) (w t) (at t).loop.invariant e t.merge-round.new.0 (after t false e)
+    let e = merged_some t c.if-not-merge_round.false in
+    merging-less (w₀ (at t)) (few (at t)) (w t) (at t).loop.invariant e t.merge_round.new.graph (after t false e)
 
 loop-again : tie.Need-loop-preserved invariant-loop decreases-loop
 loop-again c =
     let t = c.before.before.before in
-    let e = merged_some t (not-false _ c.if1.false) in
-    merging-more (w₀ (at t)) (few (at t)) (w t) (at t).loop.invariant e t.merge-round.new.0 (after t false e) t.merge-round.ensures.1.1 t.merge-round.auto.0
+    let e = merged_some t c.if-not-merge_round.false in
+    merging-more (w₀ (at t)) (few (at t)) (w t) (at t).loop.invariant e t.merge_round.new.graph (after t false e) t.merge_round.ensures.1.1 t.merge_round.auto.graph
 
-same_length : tie.Need-same-length invariant-loop decreases-loop
-same_length c = let t = c.before.before.before in t.merge-round.auto.0 ∙ (at t).loop.invariant.len
+same_length : tie.Need-shape_of-graph invariant-loop decreases-loop
+same_length c = let t = c.before.before.before in t.merge_round.auto.graph ∙ (at t).loop.invariant.len
 
 returns : tie.Need-returns invariant-loop decreases-loop
 returns c =
     let t = c.before.before.before in
-    let e = merged-none t (not-true _ c.if1.true) in
-    (after t true e ∙ merging-done (w₀ (at t)) (few (at t)) (w t) (at t).loop.invariant e, t.merge-round.ensures.1.1)
+    let e = merged-none t c.if-not-merge_round.true in
+    (after t true e ∙ merging-done (w₀ (at t)) (few (at t)) (w t) (at t).loop.invariant e, t.merge_round.ensures.1.1)
 
-pub merge-spec : {M : Type 1} → statement M
-merge-spec =
+pub merge_spec : {M : Type 1} → statement M
+merge_spec =
     tie.close
     (tie.spec
     invariant-loop

@@ -6,12 +6,12 @@ use borrow.Author.Rules.{rules}
 use Rattle.rows.proofs.new_target.Statement.{statement}
 use Rattle.rows.proofs.new_target.Tie as tie
 
-returns : tie.Need-returns
+returns : tie.Need-returns-then-u-eq0
 returns c = sym (target-zero c.before.args.numbers.now c.before.args.u (omega arith))
 
-returns-2 : tie.Need-returns-2
+returns-2 : tie.Need-returns
 returns-2 c =
-    sym (target-other c.before.before.args.numbers.now c.before.before.args.u c.before.if1.false)
+    sym (target-other c.before.before.before.args.numbers.now c.before.before.before.args.u c.before.before.if-u-eq0.false)
 
-pub new-target-spec : {M : Type 1} → statement M
-new-target-spec = tie.close (tie.spec returns (λ c. search rules) (λ c. search rules) returns-2)
+pub new_target_spec : {M : Type 1} → statement M
+new_target_spec = tie.close (tie.spec returns (λ c. search rules) (λ c. search rules) returns-2)

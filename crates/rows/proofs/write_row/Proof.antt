@@ -16,16 +16,16 @@ use Rattle.rows.proofs.NewRows.{row-length, row_target, row-marks}
 use Rattle.rows.proofs.write_row.Statement.{statement}
 use Rattle.rows.proofs.write_row.Tie as tie
 
-abbrev invariant-loop : tie.invariant-loop
+abbrev invariant-loop : tie.invariant-loop-c
 invariant-loop table s numbers graph₀ k m c₀ graph c =
     (c ≤ step_count) × (length graph ≡ length graph₀) × (graph ≡ sets graph₀ (graph_place k 0) (take c (new_row (table_of table) numbers s)))
 
-abbrev decreases-loop : tie.decreases-loop
+abbrev decreases-loop : tie.decreases-loop-c
 decreases-loop table s numbers graph₀ k m c₀ graph c = step_count - c
 
 -- ---- what is known at each place
 
-module _ (at : tie.At-loop invariant-loop decreases-loop) where
+module _ (at : tie.At-loop-c invariant-loop decreases-loop) where
   abbrev begin : tie.Start invariant-loop decreases-loop
   begin = at.before.before.before.before
 
@@ -36,47 +36,47 @@ module _ (at : tie.At-loop invariant-loop decreases-loop) where
   row = new_row (table_of words) begin.args.numbers.now begin.args.s
 
   sized : Sized words
-  sized = legal-sized words begin.pre.0
+  sized = legal-sized words begin.requires.0
 
   long : length row ≡ row_words
-  long = row-length words sized begin.args.numbers.now begin.args.s begin.pre.1.0
+  long = row-length words sized begin.args.numbers.now begin.args.s begin.requires.1.0
 
-module _ (c : tie.After-row-word invariant-loop decreases-loop) where
+module _ (c : tie.After-row_word-u invariant-loop decreases-loop) where
   -- the target that a turn looks at
-  target_is : c.row_word.result ≡ target_word (words c.before.before) (begin c.before.before).args.s c.before.before.loop.c
+  target_is : c.row_word-u.result ≡ target_word (words c.before.before) (begin c.before.before).args.s c.before.before.loop-c.c
   target_is =
       let at = c.before.before in
-      c.row_word.ensures.0 ∙ ap (λ (m : ℕ). get_or (words at) (row_place m (begin at).args.s at.loop.c) 0) at.before.leaves.ensures.0
+      c.row_word-u.ensures.0 ∙ ap (λ (m : ℕ). get_or (words at) (row_place m (begin at).args.s at.loop-c.c) 0) at.before.leaves-m.ensures.0
 
-  target_below : c.row_word.result < most_states
+  target_below : c.row_word-u.result < most_states
   target_below =
       let at = c.before.before in
       let z = sized at in
       let e = target_is in
-      let b = (legal-means (words at) (begin at).requires.0).targets (begin at).args.s at.loop.c (begin at).requires.1.0 (omega arith) in
+      let b = (legal-means (words at) (begin at).requires.0).targets (begin at).args.s at.loop-c.c (begin at).requires.1.0 (omega arith) in
       omega arith
 
   -- and the word that it writes
-  word-is : new_target (begin c.before.before).args.numbers.now c.row_word.result ≡ get_or (row c.before.before) c.before.before.loop.c 0
+  word-is : new_target (begin c.before.before).args.numbers.now c.row_word-u.result ≡ get_or (row c.before.before) c.before.before.loop-c.c 0
   word-is =
       let at = c.before.before in
       ap (new_target (begin at).args.numbers.now) target_is
-      ∙ sym (row_target (words at) (sized at) (begin at).args.numbers.now (begin at).args.s (begin at).requires.1.0 at.loop.c (omega arith))
+      ∙ sym (row_target (words at) (sized at) (begin at).args.numbers.now (begin at).args.s (begin at).requires.1.0 at.loop-c.c (omega arith))
 
-leaves-requires : tie.Need-leaves-requires invariant-loop decreases-loop
+leaves-requires : tie.Need-leaves-m-requires invariant-loop decreases-loop
 leaves-requires c κs =
     let z = legal-sized c.before.before.args.table.now c.before.before.requires.0 in omega arith
 
-loop-holds : tie.Need-loop-init invariant-loop decreases-loop
+loop-holds : tie.Need-loop-c-init invariant-loop decreases-loop
 loop-holds c = (omega arith, refl, refl)
 
-row-word-requires : tie.Need-row-word-requires invariant-loop decreases-loop
+row-word-requires : tie.Need-row_word-u-requires invariant-loop decreases-loop
 row-word-requires c κs = let z = sized c.before in omega arith
 
-new-target-requires : tie.Need-new-target-requires invariant-loop decreases-loop
+new-target-requires : tie.Need-new_target-requires invariant-loop decreases-loop
 new-target-requires c κs = omega (arith, target_below c.before)
 
-loop-again : tie.Need-loop-preserved invariant-loop decreases-loop
+loop-again : tie.Need-loop-c-preserved invariant-loop decreases-loop
 loop-again c =
     let put = c.before.before in
     let t = put.before.before.before in
@@ -85,26 +85,26 @@ loop-again c =
     let p = graph_place (begin at).args.k 0 in
     let l = long at in (
       omega arith,
-      put.set_word.auto.0 ∙ at.loop.invariant.1,
+      put.set_word.auto.graph ∙ at.loop-c.invariant.1,
       put.set_word.ensures
-          ∙ (λ i. set (at.loop.invariant.2 i) (graph_place (begin at).args.k at.loop.c) ((put.before.new-target.ensures ∙ word-is t) i))
-          ∙ sets-take g p (row at) at.loop.c 0 _ (omega arith) (omega arith),
+          ∙ (λ i. set (at.loop-c.invariant.2 i) (graph_place (begin at).args.k at.loop-c.c) ((put.before.new_target.ensures ∙ word-is t) i))
+          ∙ sets-take g p (row at) at.loop-c.c 0 _ (omega arith) (omega arith),
     )
 
-leaf-of-requires : tie.Need-leaf-of-requires invariant-loop decreases-loop
-leaf-of-requires c κs = let b = begin c.before.before in (b.pre.0, b.pre.1.0)
+leaf-of-requires : tie.Need-leaf_of-requires invariant-loop decreases-loop
+leaf-of-requires c κs = let b = begin c.before.before in (b.requires.0, b.requires.1.0)
 
-set-marks-requires : tie.Need-set-marks-requires invariant-loop decreases-loop
+set-marks-requires : tie.Need-set_marks-requires invariant-loop decreases-loop
 set-marks-requires c κs =
     let at = c.before.before.before in
     let low = leaf-low (words at) (begin at).requires.0 (begin at).args.s in
-    let leaf = c.leaf-of.ensures in
+    let leaf = c.leaf_of.ensures in
     (omega arith, ((omega arith, omega arith), omega arith))
 
-same_length : tie.Need-same-length invariant-loop decreases-loop
+same_length : tie.Need-shape_of-graph invariant-loop decreases-loop
 same_length c =
     let put = c.before.before in
-    put.set-marks.auto.0 ∙ put.before.before.before.before.loop.invariant.1
+    put.set_marks.auto.graph ∙ put.before.before.before.before.loop-c.invariant.1
 
 returns : tie.Need-returns invariant-loop decreases-loop
 returns c =
@@ -113,16 +113,16 @@ returns c =
     let g = (begin at).args.graph.now in
     let p = graph_place (begin at).args.k 0 in
     let l = long at in
-    let last : at.loop.c ≡ marks_place = omega arith in
-    let marks : marks_word put.before.leaf-of.result no_leaf ≡ get_or (row at) marks_place 0 =
-    ap (λ (x : ℕ). marks_word x no_leaf) put.before.leaf-of.ensures ∙ sym (row-marks (words at) (sized at) (begin at).args.numbers.now (begin at).args.s (begin at).requires.1.0) in
-    put.set-marks.ensures
-    ∙ (λ i. set ((at.loop.invariant.2 ∙ ap (λ (c : ℕ). sets g p (take c (row at))) last) i) (graph_place (begin at).args.k marks_place) (marks i))
+    let last : at.loop-c.c ≡ marks_place = omega arith in
+    let marks : marks_word put.before.leaf_of.result no_leaf ≡ get_or (row at) marks_place 0 =
+    ap (λ (x : ℕ). marks_word x no_leaf) put.before.leaf_of.ensures ∙ sym (row-marks (words at) (sized at) (begin at).args.numbers.now (begin at).args.s (begin at).requires.1.0) in
+    put.set_marks.ensures
+    ∙ (λ i. set ((at.loop-c.invariant.2 ∙ ap (λ (c : ℕ). sets g p (take c (row at))) last) i) (graph_place (begin at).args.k marks_place) (marks i))
     ∙ sets-take g p (row at) marks_place 0 _ (omega arith) (omega arith)
     ∙ ap (sets g p) (take_all (marks_place + 1) (row at) (omega arith))
 
-pub write-row-spec : {M : Type 1} → statement M
-write-row-spec =
+pub write_row_spec : {M : Type 1} → statement M
+write_row_spec =
     tie.close
     (tie.spec invariant-loop decreases-loop leaves-requires loop-holds row-word-requires new-target-requires (λ c κs. omega arith) (λ c. omega arith)
     (λ c. omega arith) loop-again leaf-of-requires set-marks-requires same_length returns)

@@ -6,7 +6,7 @@ use lib.ListN.{get_or-eq_default}
 use Rattle.angles.proofs.digits.first.Statement.{statement}
 use Rattle.angles.proofs.digits.first.Tie as tie
 
-returns-2 : tie.Need-returns-2
+returns-2 : tie.Need-returns-else-text-gt0
 returns-2 c = sym (get_or-eq_default c.before.args.text.now 0 (omega arith))
 
 pub first_spec : {M : Type 1} → statement M

@@ -8,5 +8,5 @@ use Rattle.angles.proofs.digits.is_below.Tie as tie
 returns : tie.Need-returns
 returns c = ap is_hyphen c.first.ensures
 
-pub is-below-spec : {M : Type 1} → statement M
-is-below-spec = tie.close (tie.spec (λ c κs. search rules) returns)
+pub is_below_spec : {M : Type 1} → statement M
+is_below_spec = tie.close (tie.spec (λ c κs. search rules) returns)

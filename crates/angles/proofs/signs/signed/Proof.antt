@@ -7,14 +7,14 @@ use Rattle.angles.proofs.Integers.{from-size, turned-fits, turned-back}
 use Rattle.angles.proofs.signs.signed.Statement.{statement}
 use Rattle.angles.proofs.signs.signed.Tie as tie
 
-sub-result : tie.Need-overflow-sub-result
+sub-result : tie.Need-overflow_sub-result
 sub-result c = turned-fits c.before.args.size c.before.requires
 
-returns : tie.Need-returns
-returns c = turned-back c.before.args.size c.before.requires ∙ ap (λ (b : Bool). signed b c.before.args.size) (sym c.if1.true)
+returns : tie.Need-returns-then-below
+returns c = turned-back c.before.args.size c.before.requires ∙ ap (λ (b : Bool). signed b c.before.args.size) (sym c.if-below.true)
 
-returns-2 : tie.Need-returns-2
-returns-2 c = from-size c.before.args.size c.before.requires ∙ ap (λ (b : Bool). signed b c.before.args.size) (sym c.if1.false)
+returns-2 : tie.Need-returns
+returns-2 c = from-size c.before.args.size c.before.requires ∙ ap (λ (b : Bool). signed b c.before.args.size) (sym c.if-below.false)
 
-pub signed-spec : {M : Type 1} → statement M
-signed-spec = tie.close (tie.spec (λ c. search rules) sub-result returns returns-2)
+pub signed_spec : {M : Type 1} → statement M
+signed_spec = tie.close (tie.spec (λ c. search rules) sub-result returns returns-2)

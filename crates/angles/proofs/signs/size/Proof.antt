@@ -4,23 +4,23 @@ use Rattle.angles.proofs.Integers.{below-nearer, below-opposite, below-cast, bel
 use Rattle.angles.proofs.signs.size.Statement.{statement}
 use Rattle.angles.proofs.signs.size.Tie as tie
 
-add-result : tie.Need-overflow-add-result
-add-result c = below-nearer c.before.args.v c.before.ranges.v c.if1.true
+add-result : tie.Need-overflow_add-result
+add-result c = below-nearer c.before.args.v c.before.ranges.v c.if-v-lt0.true
 
-sub-result : tie.Need-overflow-sub-result
-sub-result c = below-opposite c.before.args.v c.before.ranges.v c.if1.true
+sub-result : tie.Need-overflow_sub-result
+sub-result c = below-opposite c.before.args.v c.before.ranges.v c.if-v-lt0.true
 
-cast-result : tie.Need-overflow-cast-result
-cast-result c = below-cast c.before.args.v c.before.ranges.v c.if1.true
+cast-result : tie.Need-overflow_cast-result
+cast-result c = below-cast c.before.args.v c.before.ranges.v c.if-v-lt0.true
 
-add-result-2 : tie.Need-overflow-add-result-2
-add-result-2 c = below_more c.before.args.v c.before.ranges.v c.if1.true
+add-result-2 : tie.Need-overflow_add-result-then-v-lt0
+add-result-2 c = below_more c.before.args.v c.before.ranges.v c.if-v-lt0.true
 
-returns : tie.Need-returns
-returns c = below-size c.before.args.v c.before.ranges.v c.if1.true
+returns : tie.Need-returns-then-v-lt0
+returns c = below-size c.before.args.v c.before.ranges.v c.if-v-lt0.true
 
-cast-result-2 : tie.Need-overflow-cast-result-2
-cast-result-2 c = above-cast c.before.args.v c.before.ranges.v c.if1.false
+cast-result-2 : tie.Need-overflow_cast-result-2
+cast-result-2 c = above-cast c.before.args.v c.before.ranges.v c.if-v-lt0.false
 
-pub size-spec : {M : Type 1} → statement M
-size-spec = tie.close (tie.spec add-result sub-result cast-result add-result-2 returns cast-result-2 (λ c. search rules))
+pub size_spec : {M : Type 1} → statement M
+size_spec = tie.close (tie.spec add-result sub-result cast-result add-result-2 returns cast-result-2 (λ c. search rules))

@@ -6,13 +6,13 @@ use Rattle.angles.specs.Angles.{hyphen}
 use Rattle.angles.proofs.text.hyphen.Statement.{statement}
 use Rattle.angles.proofs.text.hyphen.Tie as tie
 
-returns : tie.Need-returns
+returns : tie.Need-returns-then-below
 returns c =
     let b = c.before.before in
-    wrote_as (ap hyphen (sym b.before.before.if1.true)) b.byte.ensures
+    wrote_as (ap hyphen (sym b.before.before.if-below.true)) b.byte.ensures
 
-returns-2 : tie.Need-returns-2
-returns-2 c = wrote_as (ap hyphen (sym c.if1.false)) (wrote_none _ _)
+returns-2 : tie.Need-returns
+returns-2 c = wrote_as (ap hyphen (sym c.if-below.false)) (wrote_none _ _)
 
-pub hyphen-spec : {M : Type 1} → statement M
-hyphen-spec = tie.close (tie.spec (λ c κs. search rules) (λ c. search rules) returns returns-2)
+pub hyphen_spec : {M : Type 1} → statement M
+hyphen_spec = tie.close (tie.spec (λ c κs. search rules) (λ c. search rules) returns returns-2)

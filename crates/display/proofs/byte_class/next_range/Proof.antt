@@ -5,7 +5,7 @@ use Rattle.display.proofs.byte_class.next_range.Statement.{statement}
 use Rattle.display.proofs.byte_class.next_range.Tie as tie
 
 returns : tie.Need-returns
-returns c = wrote_then c.before.before.before.before.before.before.byte.ensures c.before.before.range.ensures
+returns c = wrote_then c.before.before.before.before.before.before.byte-next.ensures c.before.before.range.ensures
 
-pub next-range-spec : {M : Type 1} → statement M
-next-range-spec = tie.close (tie.spec (λ c κs. search rules) (λ c κs. search rules) (λ c. search rules) returns)
+pub next_range_spec : {M : Type 1} → statement M
+next_range_spec = tie.close (tie.spec (λ c κs. search rules) (λ c κs. search rules) (λ c. search rules) returns)

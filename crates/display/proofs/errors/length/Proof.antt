@@ -9,7 +9,7 @@ line-requires : tie.Need-line-requires
 line-requires c κs =
     let k = c.before in
     let s = k.before in
-    (s.requires, omega (arith, line-size s.args.errors.now (λ i. omega (arith, k.shared-slice-known.given i)), k.shared-slice-known.given 1))
+    (s.requires, omega (arith, line-size s.args.errors.now (λ i. omega (arith, k.shared_slice_known-1.given i)), k.shared_slice_known-1.given 1))
 
 pub length_spec : {M : Type 1} → statement M
 length_spec = tie.close (tie.spec (λ c. search rules) line-requires (λ c. search rules))

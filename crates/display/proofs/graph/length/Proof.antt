@@ -11,7 +11,7 @@ states-requires c κs =
     let k = c.before in
     let s = k.before in
     let w = s.args.graph.now in
-    (s.requires, omega (arith, graph-size w s.requires (λ i. omega (arith, k.shared-slice-known.given i)), taken-few w s.requires))
+    (s.requires, omega (arith, graph-size w s.requires (λ i. omega (arith, k.shared_slice_known-1.given i)), taken-few w s.requires))
 
 pub length_spec : {M : Type 1} → statement M
 length_spec = tie.close (tie.spec (λ c. search rules) states-requires (λ c. search rules))

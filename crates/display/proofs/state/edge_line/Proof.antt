@@ -19,23 +19,23 @@ parts c u = refl
 size : (s : tie.Start) → length (bytes "\n" ++ edge_line s.args.class.now s.args.u) ≡ 14 + (length (class_text s.args.class.now) + length (decimal s.args.u))
 size s = omega (arith, simp length-append at (ap length (parts s.args.class.now s.args.u)))
 
-bytes-requires : tie.Need-bytes-requires
-bytes-requires c κs = omega (arith, size c.before.before.before)
+bytes-requires : tie.Need-bytes-next-requires
+bytes-requires c κs = omega (arith, size c.before.before.before.before)
 
-class-requires : tie.Need-class-requires
-class-requires c κs = omega (arith, size c.before.before.before.before.before.before.before)
+class-requires : tie.Need-class-next-requires
+class-requires c κs = omega (arith, size c.before.before.before.before.before.before.before.before)
 
 numbered-requires : tie.Need-numbered-requires
-numbered-requires c κs = simp length-append (omega (arith, size c.before.before.before.before.before.before.before.before.before.before.before.before))
+numbered-requires c κs = simp length-append (omega (arith, size c.before.before.before.before.before.before.before.before.before.before.before.before.before.before))
 
 returns : tie.Need-returns
 returns c =
     let target = c.before.before in
     let class = target.before.before.before.before.before in
     let margin = class.before.before.before.before in
-    let a = margin.before.before.before.before.args in
-    wrote_as (sym (parts a.class.now a.u)) (wrote_then margin.bytes.ensures (wrote_then class.class.ensures target.numbered.ensures))
+    let a = margin.before.before.before.before.before.before.args in
+    wrote_as (sym (parts a.class.now a.u)) (wrote_then margin.before.bytes-next.ensures (wrote_then class.before.class-next.ensures target.numbered.ensures))
 
-pub edge-line-spec : {M : Type 1} → statement M
-edge-line-spec =
-    tie.close (tie.spec (λ c. search rules) bytes-requires class-requires (λ c. search rules) numbered-requires (λ c. search rules) returns)
+pub edge_line_spec : {M : Type 1} → statement M
+edge_line_spec =
+    tie.close (tie.spec bytes-requires class-requires numbered-requires (λ c. search rules) returns)

@@ -23,20 +23,20 @@ size : (s : tie.Start) → length (first_line s.args.s (or_none no_leaf s.args.a
     ≡ 24 + (length (decimal s.args.s) + (length (mark_text (bytes "accept(") (or_none no_leaf s.args.accept)) + length (mark_text (bytes "early(") (or_none no_leaf s.args.early))))
 size s = omega (arith, simp length-append at (ap length (parts s.args.s s.args.accept s.args.early)))
 
-numbered-requires : tie.Need-numbered-requires
-numbered-requires c κs = simp length-append (omega (arith, size c.before.before.before))
+numbered-requires : tie.Need-numbered-next-requires
+numbered-requires c κs = simp length-append (omega (arith, size c.before.before.before.before))
 
-bytes-requires : tie.Need-bytes-requires
-bytes-requires c κs = omega (arith, size c.before.before.before.before.before.before.before.before)
+bytes-requires : tie.Need-bytes-next-requires
+bytes-requires c κs = omega (arith, size c.before.before.before.before.before.before.before.before.before.before)
 
-mark-requires : tie.Need-mark-requires
-mark-requires c κs = omega (arith, size c.before.before.before.before.before.before.before.before.before.before.before.before.before)
+mark-requires : tie.Need-mark-next-requires
+mark-requires c κs = omega (arith, size c.before.before.before.before.before.before.before.before.before.before.before.before.before.before.before.before)
 
-mark-requires-2 : tie.Need-mark-requires-2
-mark-requires-2 c κs = omega (arith, size c.before.before.before.before.before.before.before.before.before.before.before.before.before.before.before.before.before.before)
+mark-requires-2 : tie.Need-mark-next-requires-2
+mark-requires-2 c κs = omega (arith, size c.before.before.before.before.before.before.before.before.before.before.before.before.before.before.before.before.before.before.before.before.before.before)
 
-bytes-requires-2 : tie.Need-bytes-requires-2
-bytes-requires-2 c κs = omega (arith, size c.before.before.before.before.before.before.before.before.before.before.before.before.before.before.before.before.before.before.before.before.before.before.before)
+bytes-requires-2 : tie.Need-bytes-requires
+bytes-requires-2 c κs = omega (arith, size c.before.before.before.before.before.before.before.before.before.before.before.before.before.before.before.before.before.before.before.before.before.before.before.before.before.before.before.before)
 
 returns : tie.Need-returns
 returns c =
@@ -45,15 +45,14 @@ returns c =
     let accept = early.before.before.before.before.before in
     let opening = accept.before.before.before.before.before in
     let name = opening.before.before.before.before.before in
-    let a = name.before.before.before.before.args in
+    let a = name.before.before.before.before.before.before.before.before.before.args in
     wrote_as (sym (parts a.s a.accept a.early))
-    (wrote_then name.numbered.ensures
-    (wrote_then opening.bytes.ensures
-    (wrote_then accept.mark.ensures
-    (wrote_then early.mark2.ensures closing.bytes2.ensures))))
+    (wrote_then name.before.before.before.before.numbered-next.ensures
+    (wrote_then opening.before.before.before.bytes-next.ensures
+    (wrote_then accept.before.before.mark-next.ensures
+    (wrote_then early.before.mark-next-2.ensures closing.bytes.ensures))))
 
-pub first-line-spec : {M : Type 1} → statement M
-first-line-spec =
+pub first_line_spec : {M : Type 1} → statement M
+first_line_spec =
     tie.close
-    (tie.spec (λ c. search rules) numbered-requires (λ c. search rules) bytes-requires (λ c. search rules) mark-requires (λ c. search rules)
-    mark-requires-2 (λ c. search rules) bytes-requires-2 (λ c. search rules) returns)
+    (tie.spec numbered-requires bytes-requires mark-requires mark-requires-2 bytes-requires-2 (λ c. search rules) returns)

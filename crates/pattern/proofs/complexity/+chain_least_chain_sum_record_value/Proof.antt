@@ -75,113 +75,113 @@ record-value-calls t = (record-at-reads.Asked, record-at-reads.Learnt, literal-v
 
 -- record i, once it is read
 abbrev Read : ℕ → Type 0
-Read t = record-value-lts.After-record-at (record-value-calls t) (record-value-at t) record-value.Post
+Read t = record-value-lts.After-record_at-r (record-value-calls t) (record-value-at t) record-value.Post
 
 read : (t : ℕ) (c : Read t) → Here c.before.before.before.args.tree.now c.before.before.before.args.bytes.now c.before.before.before.args.widths.now
-    c.before.before.before.args.i c.record-at.result
-read t c = let s = c.before.before.before in record { held = s.requires.1.0; there = s.requires.1.1; is = c.record-at.ensures }
+    c.before.before.before.args.i c.record_at-r.result
+read t c = let s = c.before.before.before in record { held = s.requires.1.0; there = s.requires.1.1; is = c.record_at-r.ensures }
 
 -- what it names is measured less
-lower : (t : ℕ) (c : Read t) → c.record-at.result.child + c.record-at.result.child + 1 < t
+lower : (t : ℕ) (c : Read t) → c.record_at-r.result.child + c.record_at-r.result.child + 1 < t
 lower t c = omega (arith, c.before.before.before.requires.0, (rules (read t c)).child)
 
-abbrev chain-least-Inv-loop : chain-least-lts.invariant-loop
+abbrev chain-least-Inv-loop : chain-least-lts.invariant-loop-i
 chain-least-Inv-loop tree bytes widths first least₀ i₀ least i = Leasting tree bytes widths first least i
 
-abbrev chain-least-μ-loop : chain-least-lts.decreases-loop
+abbrev chain-least-μ-loop : chain-least-lts.decreases-loop-i
 chain-least-μ-loop tree bytes widths first least₀ i₀ least i = i
 
-chain-least-returns : (t : ℕ) → chain-least-lts.Need-returns (chain-least-calls t) (chain-least-at t) chain-least.Post chain-least-Inv-loop chain-least-μ-loop
-chain-least-returns t c = sym (least-none c.before.before.before.requires.1 c.if1.true)
+chain-least-returns : (t : ℕ) → chain-least-lts.Need-returns-then-first-eq0 (chain-least-calls t) (chain-least-at t) chain-least.Post chain-least-Inv-loop chain-least-μ-loop
+chain-least-returns t c = sym (least-none c.before.before.before.requires.1 c.if-first-eq0.true)
 
-chain-least-record-value-requires : (t : ℕ) → chain-least-lts.Need-record-value-requires (chain-least-calls t) (chain-least-at t) chain-least.Post chain-least-Inv-loop chain-least-μ-loop
+chain-least-record-value-requires : (t : ℕ) → chain-least-lts.Need-record_value-least-requires (chain-least-calls t) (chain-least-at t) chain-least.Post chain-least-Inv-loop chain-least-μ-loop
 chain-least-record-value-requires t c κs =
     let s = c.before.before.before in
-    (omega (arith, s.requires.0), (s.requires.1, pos_of_ne-zero c.if1.false))
+    (omega (arith, s.requires.0), (s.requires.1, pos_of_ne-zero c.if-first-eq0.false))
 
-chain-least-record-at-requires : (t : ℕ) → chain-least-lts.Need-record-at-requires (chain-least-calls t) (chain-least-at t) chain-least.Post chain-least-Inv-loop chain-least-μ-loop
-chain-least-record-at-requires t c κs = (pos_of_ne-zero c.before.if1.false, c.before.before.before.before.requires.1.below)
+chain-least-record-at-requires : (t : ℕ) → chain-least-lts.Need-record_at-i-requires (chain-least-calls t) (chain-least-at t) chain-least.Post chain-least-Inv-loop chain-least-μ-loop
+chain-least-record-at-requires t c κs = (pos_of_ne-zero c.before.if-first-eq0.false, c.before.before.before.before.requires.1.below)
 
-chain-least-loop-holds : (t : ℕ) → chain-least-lts.Need-loop-init (chain-least-calls t) (chain-least-at t) chain-least.Post chain-least-Inv-loop chain-least-μ-loop
+chain-least-loop-holds : (t : ℕ) → chain-least-lts.Need-loop-i-init (chain-least-calls t) (chain-least-at t) chain-least.Post chain-least-Inv-loop chain-least-μ-loop
 chain-least-loop-holds t c =
-    least-starts (record { held = c.before.before.before.before.before.requires.1; there = pos_of_ne-zero c.before.before.if1.false; is = c.record-at.ensures }) c.before.record-value.ensures
+    least-starts (record { held = c.before.before.before.before.before.requires.1; there = pos_of_ne-zero c.before.before.if-first-eq0.false; is = c.record_at-i.ensures }) c.before.record_value-least.ensures
 
-chain-least-record-value-requires-2 : (t : ℕ) → chain-least-lts.Need-record-value-requires-2 (chain-least-calls t) (chain-least-at t) chain-least.Post chain-least-Inv-loop chain-least-μ-loop
+chain-least-record-value-requires-2 : (t : ℕ) → chain-least-lts.Need-record_value-value-requires (chain-least-calls t) (chain-least-at t) chain-least.Post chain-least-Inv-loop chain-least-μ-loop
 chain-least-record-value-requires-2 t c κs =
-    let l = c.before.loop in
+    let l = c.before.loop-i in
     (omega (arith, c.before.before.before.before.before.before.before.requires.0, l.invariant.below), (l.invariant.held, omega arith))
 
-chain-least-least-of-requires : (t : ℕ) → chain-least-lts.Need-least-of-requires (chain-least-calls t) (chain-least-at t) chain-least.Post chain-least-Inv-loop chain-least-μ-loop
+chain-least-least-of-requires : (t : ℕ) → chain-least-lts.Need-least_of-least-requires (chain-least-calls t) (chain-least-at t) chain-least.Post chain-least-Inv-loop chain-least-μ-loop
 chain-least-least-of-requires t c κs = tt
 
-chain-least-record-at-requires-2 : (t : ℕ) → chain-least-lts.Need-record-at-requires-2 (chain-least-calls t) (chain-least-at t) chain-least.Post chain-least-Inv-loop chain-least-μ-loop
+chain-least-record-at-requires-2 : (t : ℕ) → chain-least-lts.Need-record_at-i-requires-in-loop-i (chain-least-calls t) (chain-least-at t) chain-least.Post chain-least-Inv-loop chain-least-μ-loop
 chain-least-record-at-requires-2 t c κs =
-    let l = c.before.before.before.loop in
+    let l = c.before.before.before.loop-i in
     (omega arith, l.invariant.held.below)
 
-chain-least-read : (t : ℕ) (c : chain-least-lts.After-record-at2 (chain-least-calls t) (chain-least-at t) chain-least.Post chain-least-Inv-loop chain-least-μ-loop)
+chain-least-read : (t : ℕ) (c : chain-least-lts.After-record_at-i-in-loop-i (chain-least-calls t) (chain-least-at t) chain-least.Post chain-least-Inv-loop chain-least-μ-loop)
     → Here c.before.before.before.before.before.before.before.before.before.before.args.tree.now c.before.before.before.before.before.before.before.before.before.before.args.bytes.now
-    c.before.before.before.before.before.before.before.before.before.before.args.widths.now c.before.before.before.before.loop.i c.record-at2.result
-chain-least-read t c = let l = c.before.before.before.before.loop in record { held = l.invariant.held; there = omega arith; is = c.record-at2.ensures }
+    c.before.before.before.before.before.before.before.before.before.before.args.widths.now c.before.before.before.before.loop-i.i c.record_at-i-in-loop-i.result
+chain-least-read t c = let l = c.before.before.before.before.loop-i in record { held = l.invariant.held; there = omega arith; is = c.record_at-i-in-loop-i.ensures }
 
-chain-least-loop-less : (t : ℕ) → chain-least-lts.Need-loop-smaller (chain-least-calls t) (chain-least-at t) chain-least.Post chain-least-Inv-loop chain-least-μ-loop
+chain-least-loop-less : (t : ℕ) → chain-least-lts.Need-loop-i-smaller (chain-least-calls t) (chain-least-at t) chain-least.Post chain-least-Inv-loop chain-least-μ-loop
 chain-least-loop-less t c = (rules (chain-least-read t c)).next
 
-chain-least-loop-again : (t : ℕ) → chain-least-lts.Need-loop-preserved (chain-least-calls t) (chain-least-at t) chain-least.Post chain-least-Inv-loop chain-least-μ-loop
+chain-least-loop-again : (t : ℕ) → chain-least-lts.Need-loop-i-preserved (chain-least-calls t) (chain-least-at t) chain-least.Post chain-least-Inv-loop chain-least-μ-loop
 chain-least-loop-again t c =
-    least-goes (chain-least-read t c) c.before.before.record-value2.ensures c.before.before.before.before.loop.invariant c.before.least-of.ensures
+    least-goes (chain-least-read t c) c.before.before.record_value-value.ensures c.before.before.before.before.loop-i.invariant c.before.least_of-least.ensures
 
-chain-least-returns-2 : (t : ℕ) → chain-least-lts.Need-returns-2 (chain-least-calls t) (chain-least-at t) chain-least.Post chain-least-Inv-loop chain-least-μ-loop
-chain-least-returns-2 t c = least-ends c.before.loop.invariant (omega arith)
+chain-least-returns-2 : (t : ℕ) → chain-least-lts.Need-returns (chain-least-calls t) (chain-least-at t) chain-least.Post chain-least-Inv-loop chain-least-μ-loop
+chain-least-returns-2 t c = least-ends c.before.loop-i.invariant (omega arith)
 
-abbrev chain-sum-Inv-loop : chain-sum-lts.invariant-loop
+abbrev chain-sum-Inv-loop : chain-sum-lts.invariant-loop-i
 chain-sum-Inv-loop tree bytes widths first total₀ i₀ total i = Summing tree bytes widths first total i
 
-abbrev chain-sum-μ-loop : chain-sum-lts.decreases-loop
+abbrev chain-sum-μ-loop : chain-sum-lts.decreases-loop-i
 chain-sum-μ-loop tree bytes widths first total₀ i₀ total i = i
 
-chain-sum-loop-holds : (t : ℕ) → chain-sum-lts.Need-loop-init (chain-sum-calls t) (chain-sum-at t) chain-sum.Post chain-sum-Inv-loop chain-sum-μ-loop
+chain-sum-loop-holds : (t : ℕ) → chain-sum-lts.Need-loop-i-init (chain-sum-calls t) (chain-sum-at t) chain-sum.Post chain-sum-Inv-loop chain-sum-μ-loop
 chain-sum-loop-holds t c = sum-starts c.before.before.requires.1
 
-chain-sum-record-value-requires : (t : ℕ) → chain-sum-lts.Need-record-value-requires (chain-sum-calls t) (chain-sum-at t) chain-sum.Post chain-sum-Inv-loop chain-sum-μ-loop
+chain-sum-record-value-requires : (t : ℕ) → chain-sum-lts.Need-record_value-value-requires (chain-sum-calls t) (chain-sum-at t) chain-sum.Post chain-sum-Inv-loop chain-sum-μ-loop
 chain-sum-record-value-requires t c κs =
-    let l = c.before.loop in
+    let l = c.before.loop-i in
     (omega (arith, c.before.before.before.before.requires.0, l.invariant.below), (l.invariant.held, omega arith))
 
-chain-sum-added-requires : (t : ℕ) → chain-sum-lts.Need-added-requires (chain-sum-calls t) (chain-sum-at t) chain-sum.Post chain-sum-Inv-loop chain-sum-μ-loop
+chain-sum-added-requires : (t : ℕ) → chain-sum-lts.Need-added-total-requires (chain-sum-calls t) (chain-sum-at t) chain-sum.Post chain-sum-Inv-loop chain-sum-μ-loop
 chain-sum-added-requires t c κs = tt
 
-chain-sum-record-at-requires : (t : ℕ) → chain-sum-lts.Need-record-at-requires (chain-sum-calls t) (chain-sum-at t) chain-sum.Post chain-sum-Inv-loop chain-sum-μ-loop
+chain-sum-record-at-requires : (t : ℕ) → chain-sum-lts.Need-record_at-i-requires (chain-sum-calls t) (chain-sum-at t) chain-sum.Post chain-sum-Inv-loop chain-sum-μ-loop
 chain-sum-record-at-requires t c κs =
-    let l = c.before.before.before.loop in
+    let l = c.before.before.before.loop-i in
     (omega arith, l.invariant.held.below)
 
-chain-sum-read : (t : ℕ) (c : chain-sum-lts.After-record-at (chain-sum-calls t) (chain-sum-at t) chain-sum.Post chain-sum-Inv-loop chain-sum-μ-loop)
+chain-sum-read : (t : ℕ) (c : chain-sum-lts.After-record_at-i (chain-sum-calls t) (chain-sum-at t) chain-sum.Post chain-sum-Inv-loop chain-sum-μ-loop)
     → Here c.before.before.before.before.before.before.before.args.tree.now c.before.before.before.before.before.before.before.args.bytes.now
-    c.before.before.before.before.before.before.before.args.widths.now c.before.before.before.before.loop.i c.record-at.result
-chain-sum-read t c = let l = c.before.before.before.before.loop in record { held = l.invariant.held; there = omega arith; is = c.record-at.ensures }
+    c.before.before.before.before.before.before.before.args.widths.now c.before.before.before.before.loop-i.i c.record_at-i.result
+chain-sum-read t c = let l = c.before.before.before.before.loop-i in record { held = l.invariant.held; there = omega arith; is = c.record_at-i.ensures }
 
-chain-sum-loop-less : (t : ℕ) → chain-sum-lts.Need-loop-smaller (chain-sum-calls t) (chain-sum-at t) chain-sum.Post chain-sum-Inv-loop chain-sum-μ-loop
+chain-sum-loop-less : (t : ℕ) → chain-sum-lts.Need-loop-i-smaller (chain-sum-calls t) (chain-sum-at t) chain-sum.Post chain-sum-Inv-loop chain-sum-μ-loop
 chain-sum-loop-less t c = (rules (chain-sum-read t c)).next
 
-chain-sum-loop-again : (t : ℕ) → chain-sum-lts.Need-loop-preserved (chain-sum-calls t) (chain-sum-at t) chain-sum.Post chain-sum-Inv-loop chain-sum-μ-loop
+chain-sum-loop-again : (t : ℕ) → chain-sum-lts.Need-loop-i-preserved (chain-sum-calls t) (chain-sum-at t) chain-sum.Post chain-sum-Inv-loop chain-sum-μ-loop
 chain-sum-loop-again t c =
-    sum_goes (chain-sum-read t c) c.before.before.record-value.ensures c.before.before.before.before.loop.invariant c.before.added.ensures
+    sum_goes (chain-sum-read t c) c.before.before.record_value-value.ensures c.before.before.before.before.loop-i.invariant c.before.added-total.ensures
 
 chain-sum-returns : (t : ℕ) → chain-sum-lts.Need-returns (chain-sum-calls t) (chain-sum-at t) chain-sum.Post chain-sum-Inv-loop chain-sum-μ-loop
-chain-sum-returns t c = sum-ends c.before.loop.invariant (omega arith)
+chain-sum-returns t c = sum-ends c.before.loop-i.invariant (omega arith)
 
-record-value-record-at-requires : (t : ℕ) → record-value-lts.Need-record-at-requires (record-value-calls t) (record-value-at t) record-value.Post
+record-value-record-at-requires : (t : ℕ) → record-value-lts.Need-record_at-r-requires (record-value-calls t) (record-value-at t) record-value.Post
 record-value-record-at-requires t c κs =
     let s = c.before.before in
     (s.requires.1.1, s.requires.1.0.below)
 
-record-value-literal-value-requires : (t : ℕ) → record-value-lts.Need-literal-value-requires (record-value-calls t) (record-value-at t) record-value.Post
+record-value-literal-value-requires : (t : ℕ) → record-value-lts.Need-literal_value-requires (record-value-calls t) (record-value-at t) record-value.Post
 record-value-literal-value-requires t c κs =
     let r = read t c.before in
-    (r.held.table, literal-asks r c.match.keys1)
+    (r.held.table, literal-asks r c.in-1.is)
 
-record-value-record-value-requires : (t : ℕ) → record-value-lts.Need-record-value-requires (record-value-calls t) (record-value-at t) record-value.Post
+record-value-record-value-requires : (t : ℕ) → record-value-lts.Need-record_value-requires (record-value-calls t) (record-value-at t) record-value.Post
 record-value-record-value-requires t c κs =
     let r = read t c.before in
     (omega (arith, lower t c.before), (child-held r, child-asks r (omega arith) (omega arith)))
@@ -189,43 +189,43 @@ record-value-record-value-requires t c κs =
 record-value-multiplied-requires : (t : ℕ) → record-value-lts.Need-multiplied-requires (record-value-calls t) (record-value-at t) record-value.Post
 record-value-multiplied-requires t c κs = tt
 
-record-value-record-value-requires-2 : (t : ℕ) → record-value-lts.Need-record-value-requires-2 (record-value-calls t) (record-value-at t) record-value.Post
+record-value-record-value-requires-2 : (t : ℕ) → record-value-lts.Need-record_value-requires-in-5 (record-value-calls t) (record-value-at t) record-value.Post
 record-value-record-value-requires-2 t c κs =
     let r = read t c.before in
     (omega (arith, lower t c.before), (child-held r, child-asks r (omega arith) (omega arith)))
 
-record-value-chain-sum-requires : (t : ℕ) → record-value-lts.Need-chain-sum-requires (record-value-calls t) (record-value-at t) record-value.Post
+record-value-chain-sum-requires : (t : ℕ) → record-value-lts.Need-chain_sum-requires (record-value-calls t) (record-value-at t) record-value.Post
 record-value-chain-sum-requires t c κs = (lower t c.before, child-held (read t c.before))
 
-record-value-chain-least-requires : (t : ℕ) → record-value-lts.Need-chain-least-requires (record-value-calls t) (record-value-at t) record-value.Post
+record-value-chain-least-requires : (t : ℕ) → record-value-lts.Need-chain_least-requires (record-value-calls t) (record-value-at t) record-value.Post
 record-value-chain-least-requires t c κs = (lower t c.before, child-held (read t c.before))
 
-record-value-returns : (t : ℕ) → record-value-lts.Need-returns (record-value-calls t) (record-value-at t) record-value.Post
-record-value-returns t c = of-literal (read t c.before.before) c.before.match.keys1 _ c.literal-value.ensures
+record-value-returns : (t : ℕ) → record-value-lts.Need-returns-in-1 (record-value-calls t) (record-value-at t) record-value.Post
+record-value-returns t c = of-literal (read t c.before.before) c.before.in-1.is _ c.literal_value.ensures
 
-record-value-returns-2 : (t : ℕ) → record-value-lts.Need-returns-2 (record-value-calls t) (record-value-at t) record-value.Post
-record-value-returns-2 t c = of-class (read t c.before) c.match.keys2
+record-value-returns-2 : (t : ℕ) → record-value-lts.Need-returns-in-2 (record-value-calls t) (record-value-at t) record-value.Post
+record-value-returns-2 t c = of-class (read t c.before) c.in-2.is
 
-record-value-returns-3 : (t : ℕ) → record-value-lts.Need-returns-3 (record-value-calls t) (record-value-at t) record-value.Post
+record-value-returns-3 : (t : ℕ) → record-value-lts.Need-returns-in-4 (record-value-calls t) (record-value-at t) record-value.Post
 record-value-returns-3 t c =
-    of-repetition (read t c.before.before.before) c.before.before.match.keys3 _ _ c.before.record-value.ensures c.multiplied.ensures
+    of-repetition (read t c.before.before.before) c.before.before.in-4.is _ _ c.before.record_value.ensures c.multiplied.ensures
 
-record-value-returns-4 : (t : ℕ) → record-value-lts.Need-returns-4 (record-value-calls t) (record-value-at t) record-value.Post
-record-value-returns-4 t c = of-capture (read t c.before.before) c.before.match.keys4 _ c.record-value2.ensures
+record-value-returns-4 : (t : ℕ) → record-value-lts.Need-returns-in-5 (record-value-calls t) (record-value-at t) record-value.Post
+record-value-returns-4 t c = of-capture (read t c.before.before) c.before.in-5.is _ c.record_value-in-5.ensures
 
-record-value-returns-5 : (t : ℕ) → record-value-lts.Need-returns-5 (record-value-calls t) (record-value-at t) record-value.Post
-record-value-returns-5 t c = of-concat (read t c.before.before) c.before.match.keys5 _ c.chain-sum.ensures
+record-value-returns-5 : (t : ℕ) → record-value-lts.Need-returns-in-6 (record-value-calls t) (record-value-at t) record-value.Post
+record-value-returns-5 t c = of-concat (read t c.before.before) c.before.in-6.is _ c.chain_sum.ensures
 
-record-value-returns-6 : (t : ℕ) → record-value-lts.Need-returns-6 (record-value-calls t) (record-value-at t) record-value.Post
-record-value-returns-6 t c = of-alternation (read t c.before.before) c.before.match.keys6 _ c.chain-least.ensures
+record-value-returns-6 : (t : ℕ) → record-value-lts.Need-returns-in-7 (record-value-calls t) (record-value-at t) record-value.Post
+record-value-returns-6 t c = of-alternation (read t c.before.before) c.before.in-7.is _ c.chain_least.ensures
 
-record-value-returns-7 : (t : ℕ) → record-value-lts.Need-returns-7 (record-value-calls t) (record-value-at t) record-value.Post
+record-value-returns-7 : (t : ℕ) → record-value-lts.Need-returns-in_default (record-value-calls t) (record-value-at t) record-value.Post
 record-value-returns-7 t c =
-    let no = c.match.rest in
+    let no = c.in_default.in_default-own.rest in
     of-rest (read t c.before) no.0.0.0.0.0.1 no.0.0.0.0.1 no.0.0.0.1 no.0.0.1 no.0.1 no.1
 
-pub +chain-least-chain-sum-record-value-spec : {M : Type 1} → statement M
-+chain-least-chain-sum-record-value-spec =
+pub +chain_least_chain_sum_record_value_spec : {M : Type 1} → statement M
++chain_least_chain_sum_record_value_spec =
     close μ-chain-least μ-chain-sum μ-record-value (λ t. chain-least-lts.spec (chain-least-calls t)
     (chain-least-at t)
     chain-least.Post

@@ -4,7 +4,7 @@ use Rattle.pattern.proofs.greedy.is_dot.Statement.{statement}
 use Rattle.pattern.proofs.greedy.is_dot.Tie as tie
 
 returns : tie.Need-returns
-returns c = rw c.before.is_set.ensures
+returns c = rw c.before.is_set-one.ensures
 
-pub is-dot-spec : {M : Type 1} → statement M
-is-dot-spec = tie.close (tie.spec (λ c κs. search rules) returns)
+pub is_dot_spec : {M : Type 1} → statement M
+is_dot_spec = tie.close (tie.spec (λ c κs. search rules) returns)

@@ -4,11 +4,11 @@ use borrow.Author.Tests.{lt-ltb, le-ltb}
 use Rattle.pattern.proofs.values.cap.Statement.{statement}
 use Rattle.pattern.proofs.values.cap.Tie as tie
 
-returns : tie.Need-returns
-returns c = simp (lt-ltb _ _ c.if1.true)
+returns : tie.Need-returns-then-v-gt-LIMIT
+returns c = simp (lt-ltb _ _ c.if-v-gt-LIMIT.true)
 
-returns-2 : tie.Need-returns-2
-returns-2 c = simp (le-ltb _ _ c.if1.false)
+returns-2 : tie.Need-returns
+returns-2 c = simp (le-ltb _ _ c.if-v-gt-LIMIT.false)
 
-pub cap-spec : {M : Type 1} → statement M
-cap-spec = tie.close (tie.spec returns (λ c. omega arith) returns-2)
+pub cap_spec : {M : Type 1} → statement M
+cap_spec = tie.close (tie.spec returns (λ c. omega arith) returns-2)

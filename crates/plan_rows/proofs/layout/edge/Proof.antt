@@ -14,5 +14,5 @@ returns c =
     let e : own_place base a.s + (1 + a.j) ≡ edge_place base a.s a.j = omega arith in
     c.word.ensures.0 ∙ ap (λ (i : ℕ). get_or a.plan.now i 0) e
 
-pub edge-spec : {M : Type 1} → statement M
-edge-spec = tie.close (tie.spec (λ c. search rules) (λ c. search rules) (λ c. search rules) (λ c κs. search rules) returns)
+pub edge_spec : {M : Type 1} → statement M
+edge_spec = tie.close (tie.spec (λ c. search rules) (λ c. search rules) (λ c. search rules) (λ c κs. search rules) returns)

@@ -17,29 +17,29 @@ use Rattle.plan_rows.proofs.needs.with_edge.Tie as tie
 abbrev by : tie.Start → Way → Grown
 by s way = let a = s.args in grown_by a.store (masked way (class_to (state_of (graph_from a.graph.now) a.s) a.u))
 
-returns : tie.Need-returns
+returns : tie.Need-returns-in-BySelf
 returns c =
-    let w = c.before.before in
+    let w = c.before in
     let s = w.before.before in
-    by-none s.args.store s.requires.1.1.1 ∙ ap (by s) (sym c.enum_told.given.1 ∙ w.way-to.ensures)
+    by-none s.args.store s.requires.1.1.1 ∙ ap (by s) (sym c.in-BySelf.is ∙ w.way_to.ensures)
 
-returns-2 : tie.Need-returns-2
+returns-2 : tie.Need-returns-in-ByTests
 returns-2 c =
-    let w = c.before.before in
+    let w = c.before in
     let s = w.before.before in
-    by-none s.args.store s.requires.1.1.1 ∙ ap (by s) (sym c.enum-told2.given.1 ∙ w.way-to.ensures)
+    by-none s.args.store s.requires.1.1.1 ∙ ap (by s) (sym c.in-ByTests.is ∙ w.way_to.ensures)
 
-returns-3 : tie.Need-returns-3
+returns-3 : tie.Need-returns-in-ByMask
 returns-3 c =
     let k = c.before in
-    let w = k.before.before.before in
+    let w = k.before.before in
     let s = w.before.before in
-    c.with-mask.ensures
-    ∙ ap (λ (class : Class). grown_by s.args.store (class ∷ [])) k.class-to.ensures
-    ∙ ap (by s) (sym k.before.enum-told3.given.1 ∙ w.way-to.ensures)
+    c.with_mask.ensures
+    ∙ ap (λ (class : Class). grown_by s.args.store (class ∷ [])) k.class_to.ensures
+    ∙ ap (by s) (sym k.before.in-ByMask.is ∙ w.way_to.ensures)
 
-pub with-edge-spec : {M : Type 1} → statement M
-with-edge-spec =
+pub with_edge_spec : {M : Type 1} → statement M
+with_edge_spec =
     tie.close
     (tie.spec (λ c κs. search rules) (λ c. search rules) (λ c. search rules) (λ c. search rules) (λ c κs. search rules)
     (λ c κs. search rules) returns returns-2 returns-3)

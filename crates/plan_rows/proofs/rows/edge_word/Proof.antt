@@ -17,39 +17,39 @@ use Rattle.plan_rows.proofs.rows.edge_word.Tie as tie
 abbrev by : tie.Start → Way → ℕ
 by s way = let a = s.args in way_word (held (store_of a.tables.now a.count)) way (class_to (state_of (graph_from a.graph.now) a.s) a.u)
 
-abbrev start : tie.After-way-to → tie.Start
+abbrev start : tie.After-way_to → tie.Start
 start w = w.before.before
 
 -- the number is small
-few : (c : tie.After-number-from) → c.number-from.result ≤ most_masks
+few : (c : tie.After-number_from) → c.number_from.result ≤ most_masks
 few c =
     let k = c.before.before in
-    let s = start k.before.before.before in
-    omega (arith, found-few s.args.tables.now s.args.count k.class-to.ensures c.number-from.ensures)
+    let s = start k.before.before in
+    omega (arith, found-few s.args.tables.now s.args.count k.class_to-class.ensures c.number_from.ensures)
 
-add-result : tie.Need-overflow-add-result
+add-result : tie.Need-overflow_add-result
 add-result c = omega (arith, few c)
 
-cast-result : tie.Need-overflow-cast-result
+cast-result : tie.Need-overflow_cast-result
 cast-result c = omega (arith, few c)
 
-returns : tie.Need-returns
-returns c = let w = c.before.before in ap (by (start w)) (sym c.enum_told.given.1 ∙ w.way-to.ensures)
+returns : tie.Need-returns-in-BySelf
+returns c = let w = c.before in ap (by (start w)) (sym c.in-BySelf.is ∙ w.way_to.ensures)
 
-returns-2 : tie.Need-returns-2
-returns-2 c = let w = c.before.before in ap (by (start w)) (sym c.enum-told2.given.1 ∙ w.way-to.ensures)
+returns-2 : tie.Need-returns-in-ByTests
+returns-2 c = let w = c.before in ap (by (start w)) (sym c.in-ByTests.is ∙ w.way_to.ensures)
 
-returns-3 : tie.Need-returns-3
+returns-3 : tie.Need-returns-in-ByMask
 returns-3 c =
     let k = c.before.before in
-    let w = k.before.before.before in
+    let w = k.before.before in
     let a = (start w).args in
-    let e = found_number a.tables.now a.count k.class-to.ensures c.number-from.ensures in
-    let z : 2 + c.number-from.result ≡ suc (suc (number_of (held (store_of a.tables.now a.count)) (class_to (state_of (graph_from a.graph.now) a.s) a.u))) = omega arith in
-    z ∙ ap (by (start w)) (sym k.before.enum-told3.given.1 ∙ w.way-to.ensures)
+    let e = found_number a.tables.now a.count k.class_to-class.ensures c.number_from.ensures in
+    let z : 2 + c.number_from.result ≡ suc (suc (number_of (held (store_of a.tables.now a.count)) (class_to (state_of (graph_from a.graph.now) a.s) a.u))) = omega arith in
+    z ∙ ap (by (start w)) (sym k.before.in-ByMask.is ∙ w.way_to.ensures)
 
-pub edge-word-spec : {M : Type 1} → statement M
-edge-word-spec =
+pub edge_word_spec : {M : Type 1} → statement M
+edge_word_spec =
     tie.close
     (tie.spec (λ c κs. search rules) (λ c. search rules) (λ c. search rules) (λ c. search rules) (λ c κs. search rules)
     (λ c κs. search rules) add-result cast-result returns returns-2 returns-3)

@@ -26,18 +26,18 @@ module _ (st : State) (s u : ℕ) where
     unfolding way_to
     way-mask h = sym (rw (ne_eqb u s other, ← same, lt-ltb 2 (cost c) h))
 
-returns : tie.Need-returns
-returns c = way-self _ _ _ c.if1.true
+returns : tie.Need-returns-then-u-s
+returns c = way-self _ _ _ c.if-u-s.true
 
-returns-2 : tie.Need-returns-2
+returns-2 : tie.Need-returns-then-cost-gt-COST
 returns-2 c =
     let k = c.before.before.before in
-    way-mask _ _ _ k.class-to.ensures k.before.if1.false (omega (arith, c.before.cost.ensures))
+    way-mask _ _ _ k.class_to-class.ensures k.before.if-u-s.false (omega (arith, c.before.cost.ensures))
 
-returns-3 : tie.Need-returns-3
+returns-3 : tie.Need-returns
 returns-3 c =
     let k = c.before.before.before in
-    way-tests _ _ _ k.class-to.ensures k.before.if1.false (omega (arith, c.before.cost.ensures))
+    way-tests _ _ _ k.class_to-class.ensures k.before.if-u-s.false (omega (arith, c.before.cost.ensures))
 
-pub way-to-spec : {M : Type 1} → statement M
-way-to-spec = tie.close (tie.spec returns (λ c κs. search rules) (λ c κs. search rules) returns-2 returns-3)
+pub way_to_spec : {M : Type 1} → statement M
+way_to_spec = tie.close (tie.spec returns (λ c κs. search rules) (λ c κs. search rules) returns-2 returns-3)

@@ -7,15 +7,15 @@ use Rattle.readings.proofs.read.accepted.Statement.{statement}
 use Rattle.readings.proofs.read.accepted.Tie as tie
 use Rattle.graph_rules.specs.Layout.{no_leaf}
 
-returns : tie.Need-returns
-returns c = sym (late-none _ _ _ c.if1.true)
+returns : tie.Need-returns-then-accept-eq-NO_LEAF
+returns c = sym (late-none _ _ _ c.if-accept-eq-NO_LEAF.true)
 
-returns-2 : tie.Need-returns-2
-returns-2 c = let a = c.before.before.args in sym (late-zero (or_none no_leaf a.accept) _ _ c.if2.true)
+returns-2 : tie.Need-returns-then-k-eq0
+returns-2 c = let a = c.before.before.args in sym (late-zero (or_none no_leaf a.accept) _ _ c.if-k-eq0.true)
 
-returns-3 : tie.Need-returns-3
+returns-3 : tie.Need-returns
 returns-3 c =
-    let n = c.before.if1.false in recorded-some _ _ n ∙ sym (late-back _ _ _ n c.if2.false)
+    let n = c.before.if-accept-eq-NO_LEAF.false in recorded-some _ _ n ∙ sym (late-back _ _ _ n c.if-k-eq0.false)
 
-pub accepted-spec : {M : Type 1} → statement M
-accepted-spec = tie.close (tie.spec returns returns-2 (λ c. search rules) returns-3)
+pub accepted_spec : {M : Type 1} → statement M
+accepted_spec = tie.close (tie.spec returns returns-2 (λ c. search rules) returns-3)

@@ -7,7 +7,7 @@ use Rattle.readings.proofs.read_table.mark_at.Tie as tie
 returns : tie.Need-returns
 returns c =
     let a = c.before.before.before in
-    rw (← leaf-back a.args.table.now a.requires.0 a.args.s _ c.before.leaf-of.ensures) c.accepted.ensures
+    rw (← leaf-back a.args.table.now a.requires.0 a.args.s _ c.before.leaf_of.ensures) c.accepted.ensures
 
-pub mark-at-spec : {M : Type 1} → statement M
-mark-at-spec = tie.close (tie.spec (λ c κs. search rules) (λ c κs. search rules) returns)
+pub mark_at_spec : {M : Type 1} → statement M
+mark_at_spec = tie.close (tie.spec (λ c κs. search rules) (λ c κs. search rules) returns)

@@ -15,56 +15,56 @@ use Rattle.readings.proofs.TableTurn.{edge_none, starts_none, starts-dead, start
 use Rattle.readings.proofs.read_table.walk.Statement.{statement}
 use Rattle.readings.proofs.read_table.walk.Tie as tie
 
-abbrev invariant-loop : tie.invariant-loop
+abbrev invariant-loop : tie.invariant-loop-k
 invariant-loop table text r₀ s₀ k₀ r s k =
     Walking (table_walker (table_of table)) (get_or table 0 0) text (read_table (table_of table) text) s k (recorded r.leaf r.end)
 
-abbrev decreases-loop : tie.decreases-loop
+abbrev decreases-loop : tie.decreases-loop-k
 decreases-loop table text r₀ s₀ k₀ r s k = length text - k
 
-start-requires : tie.Need-start-requires invariant-loop decreases-loop
+start-requires : tie.Need-start-s-requires invariant-loop decreases-loop
 start-requires c κs = let e = exact c.before.before.args.table.now c.before.before.requires in omega arith
 
-returns : tie.Need-returns invariant-loop decreases-loop
+returns : tie.Need-returns-then-s-eq-NONE invariant-loop decreases-loop
 returns c =
     let st = c.before.before.before.before in
-    sym (starts_none st.args.table.now _ c.before.start.ensures.0 st.args.text.now c.if1.true)
+    sym (starts_none st.args.table.now _ c.before.start-s.ensures.0 st.args.text.now c.if-s-eq-NONE.true)
 
-returns-2 : tie.Need-returns-2 invariant-loop decreases-loop
+returns-2 : tie.Need-returns-then-s-eq0 invariant-loop decreases-loop
 returns-2 c =
     let st = c.before.before.before.before.before in
-    sym (starts-dead st.args.table.now _ c.before.before.start.ensures.0 c.before.if1.false st.args.text.now c.if2.true)
+    sym (starts-dead st.args.table.now _ c.before.before.start-s.ensures.0 c.before.if-s-eq-NONE.false st.args.text.now c.if-s-eq0.true)
 
-loop-holds : tie.Need-loop-init invariant-loop decreases-loop
+loop-holds : tie.Need-loop-k-init invariant-loop decreases-loop
 loop-holds c =
     let st = c.before.before.before.before.before in
-    let e = c.before.before.start.ensures.0 in
+    let e = c.before.before.start-s.ensures.0 in
     record {
-      state = start-below st.args.table.now _ e c.before.if1.false st.requires;
+      state = start-below st.args.table.now _ e c.before.if-s-eq-NONE.false st.requires;
       place = omega arith;
-      left = starts-at st.args.table.now _ e c.before.if1.false st.args.text.now c.if2.false;
+      left = starts-at st.args.table.now _ e c.before.if-s-eq-NONE.false st.args.text.now c.if-s-eq0.false;
     }
 
-returns-3 : tie.Need-returns-3 invariant-loop decreases-loop
+returns-3 : tie.Need-returns-then-t-eq0 invariant-loop decreases-loop
 unfolding table_walker
 returns-3 c =
     let m = c.before.before.before in
-    turn-stops m.before.before.loop.invariant m.mark-at.ensures m.before.loop-test.true c.before.before.byte.ensures.0
-    (ap edge (sym c.before.step.ensures.0) ∙ edge_none _ c.if3.true)
+    turn-stops m.before.before.loop-k.invariant m.mark_at-r.ensures m.before.loop-k-test.true c.before.before.byte-b.ensures.0
+    (ap edge (sym c.before.step-t.ensures.0) ∙ edge_none _ c.if-t-eq0.true)
 
-loop-again : tie.Need-loop-preserved invariant-loop decreases-loop
+loop-again : tie.Need-loop-k-preserved invariant-loop decreases-loop
 unfolding table_walker
 loop-again c =
     let m = c.before.before.before in
-    turn-goes m.before.before.loop.invariant m.mark-at.ensures m.before.loop-test.true c.before.before.byte.ensures.0
-    c.before.step.ensures.1 (ap edge (sym c.before.step.ensures.0) ∙ edge_of _ c.if3.false)
+    turn-goes m.before.before.loop-k.invariant m.mark_at-r.ensures m.before.loop-k-test.true c.before.before.byte-b.ensures.0
+    c.before.step-t.ensures.1 (ap edge (sym c.before.step-t.ensures.0) ∙ edge_of _ c.if-t-eq0.false)
 
-returns-4 : tie.Need-returns-4 invariant-loop decreases-loop
+returns-4 : tie.Need-returns invariant-loop decreases-loop
 unfolding table_walker
-returns-4 c = turn-ends c.before.before.before.loop.invariant c.before.mark-at2.ensures (omega arith) c.ended.ensures
+returns-4 c = turn-ends c.before.before.before.loop-k.invariant c.before.mark_at.ensures (omega arith) c.ended.ensures
 
-pub walk-spec : {M : Type 1} → statement M
-walk-spec =
+pub walk_spec : {M : Type 1} → statement M
+walk_spec =
     tie.close
     (tie.spec invariant-loop decreases-loop start-requires returns returns-2 loop-holds (λ c κs. search rules) (λ c κs. search rules)
     (λ c κs. search rules) returns-3 (λ c. search rules) (λ c. search rules) loop-again (λ c κs. search rules) (λ c κs. search rules)
