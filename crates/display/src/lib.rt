@@ -14,6 +14,7 @@ ghost use Rattle.display.specs.Answers.{display_call, line_call};
 mod byte_class;
 pub mod errors;
 pub mod graph;
+pub mod put;
 mod state;
 
 // How many bytes were written; or the number of a refusal, the buffer being unchanged.

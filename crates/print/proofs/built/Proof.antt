@@ -21,26 +21,26 @@ graph-counts : (s : tie.Start) → Counts s.args.at (line (graph_text s))
 unfolding words_text
 graph-counts s = counts-first s.args.at (line (graph_text s)) (error_text s) s.requires.1
 
-states-requires : tie.Need-states-requires
+states-requires : tie.Need-states-next-requires
 states-requires c κs =
     let s = c.before.before.before.before in
     (s.requires.0.taken, counts-first s.args.at (graph_text s) (bytes "\n") (graph-counts s))
 
-abbrev start : tie.After-states → tie.Start
+abbrev start : tie.After-states-next → tie.Start
 start t = t.before.before.before.before.before
 
-byte-requires : tie.Need-byte-requires
+byte-requires : tie.Need-byte-next-requires
 byte-requires c κs =
     let t = c.before.before.before in
-    counts-then (start t).args.at (graph_text (start t)) (bytes "\n") (graph-counts (start t)) t.states.ensures
+    counts-then (start t).args.at (graph_text (start t)) (bytes "\n") (graph-counts (start t)) t.states-next.ensures
 
-error-lines-requires : tie.Need-error-lines-requires
+error-lines-requires : tie.Need-error_lines-requires
 unfolding words_text
 error-lines-requires c κs =
     let b = c.before.before.before in
     let t = b.before.before.before.before in
     let s = start t in
-    (s.pre.0.listed, counts-then s.args.at (line (graph_text s)) (error_text s) s.pre.1 (wrote_then t.states.ensures b.byte.ensures))
+    (s.requires.0.listed, counts-then s.args.at (line (graph_text s)) (error_text s) s.requires.1 (wrote_then t.states-next.ensures b.byte-next.ensures))
 
 returns : tie.Need-returns
 unfolding words_text
@@ -48,8 +48,8 @@ returns c =
     let l = c.before.before in
     let b = l.before.before.before.before in
     let t = b.before.before.before.before in
-    wrote_then (wrote_then t.states.ensures b.byte.ensures) l.error-lines.ensures
+    wrote_then (wrote_then t.states-next.ensures b.byte-next.ensures) l.error_lines.ensures
 
-pub built-spec : {M : Type 1} → statement M
-built-spec =
+pub built_spec : {M : Type 1} → statement M
+built_spec =
     tie.close (tie.spec states-requires byte-requires error-lines-requires (λ c. search rules) returns)

@@ -14,45 +14,45 @@ use Rattle.print.proofs.Answers.{image_holds, image-text}
 use Rattle.print.proofs.print.Statement.{statement}
 use Rattle.print.proofs.print.Tie as tie
 
-abbrev start : tie.After-from-image → tie.Start
+abbrev start : tie.After-from_image-answer → tie.Start
 start f = f.before.before.before.before.before
 
-abbrev image : tie.After-from-image → List ℕ
+abbrev image : tie.After-from_image-answer → List ℕ
 image f = (start f).args.image.now
 
-abbrev graph : tie.After-from-image → List ℕ
-graph f = f.from-image.new.1.0
+abbrev graph : tie.After-from_image-answer → List ℕ
+graph f = f.from_image-answer.new.graph
 
-abbrev errors : tie.After-from-image → List ℕ
-errors f = f.from-image.new.1.1.0
+abbrev errors : tie.After-from_image-answer → List ℕ
+errors f = f.from_image-answer.new.errors
 
 -- what the build has answered and left
-left : (f : tie.After-from-image) → record { answer = f.from-image.result; graph = graph f; errors = errors f } ≡ image_of (image f) space space
+left : (f : tie.After-from_image-answer) → record { answer = f.from_image-answer.result; graph = graph f; errors = errors f } ≡ image_of (image f) space space
 unfolding space
-left f = f.from-image.ensures
+left f = f.from_image-answer.ensures
 
-holds : (f : tie.After-from-image) → Holds f.from-image.result (graph f) (errors f)
-holds f = image_holds (image f) (graph f) (errors f) f.from-image.result (left f)
+holds : (f : tie.After-from_image-answer) → Holds f.from_image-answer.result (graph f) (errors f)
+holds f = image_holds (image f) (graph f) (errors f) f.from_image-answer.result (left f)
 
 -- its text is what is to be printed
-is-printed : (f : tie.After-from-image) → answer_text f.from-image.result (graph f) (errors f) ≡ printed (image f)
-is-printed f = image-text (image f) (graph f) (errors f) f.from-image.result (left f)
+is-printed : (f : tie.After-from_image-answer) → answer_text f.from_image-answer.result (graph f) (errors f) ≡ printed (image f)
+is-printed f = image-text (image f) (graph f) (errors f) f.from_image-answer.result (left f)
 
-text-requires : tie.Need-text-requires
+text-requires : tie.Need-text-length-requires
 text-requires c κs = let f = c.before.before.before.before.before in (holds f, (omega arith, omega arith))
 
-abbrev build-of : tie.After-none2 → tie.After-from-image
+abbrev build-of : tie.After-none-2-1 → tie.After-from_image-answer
 build-of n = n.before.before.before.before.before.before.before
 
 -- its length, by the first run
-measured : (n : tie.After-none2) → n.before.text.result ≡ length (printed (image (build-of n)))
+measured : (n : tie.After-none-2-1) → n.before.text-length.result ≡ length (printed (image (build-of n)))
 measured n =
-    front-place _ n.before.text.ensures.0 ∙ ap length (is-printed (build-of n))
+    front-place _ n.before.text-length.ensures.0 ∙ ap length (is-printed (build-of n))
 
-room : (n : tie.After-none2) → length (printed (image (build-of n))) ≤ most_printed
-room n = let e = measured n in let r = n.before.text.ensures.1 in omega arith
+room : (n : tie.After-none-2-1) → length (printed (image (build-of n))) ≤ most_printed
+room n = let e = measured n in let r = n.before.text-length.ensures.1 in omega arith
 
-returns : tie.Need-returns
+returns : tie.Need-returns-then-out-length
 unfolding print_call
 returns c =
     let n = c.before in
@@ -60,21 +60,21 @@ returns c =
     let l = left-short (printed s.args.image.now) s.args.out.now (let e = measured n in omega arith) in
     (l.says, (l.holds, room n))
 
-text-requires-2 : tie.Need-text-requires-2
+text-requires-2 : tie.Need-text-requires
 text-requires-2 c κs = let f = build-of c.before.before.before.before in (holds f, (omega arith, omega arith))
 
-returns-2 : tie.Need-returns-2
+returns-2 : tie.Need-returns
 unfolding print_call
 returns-2 c =
     let t = c.before.before in
     let e = t.before.before.before.before in
     let n = e.before in
     let s = start (build-of n) in
-    let l = left-written (printed s.args.image.now) s.args.out.now (let m = measured n in omega arith) (wrote_as (is-printed (build-of n)) t.text2.ensures.0) in
+    let l = left-written (printed s.args.image.now) s.args.out.now (let m = measured n in omega arith) (wrote_as (is-printed (build-of n)) t.text.ensures.0) in
     (l.says, (l.holds, room n))
 
-pub print-spec : {M : Type 1} → statement M
-print-spec =
+pub print_spec : {M : Type 1} → statement M
+print_spec =
     tie.close
     (tie.spec (λ c. search rules) (λ c. search rules) (λ c κs. search rules) (λ c. search rules) (λ c. search rules) (λ c. search rules)
     text-requires returns (λ c. search rules) (λ c. search rules) text-requires-2 (λ c. search rules) returns-2)

@@ -5,20 +5,20 @@ use borrow.Author.Rules.{rules}
 use Rattle.graph.proofs.image.word.Statement.{statement}
 use Rattle.graph.proofs.image.word.Tie as tie
 
-cast-low : tie.Need-overflow-cast-low
-cast-low c = omega (arith, c.shared-slice-known.given (2 * c.before.args.i))
+cast-low : tie.Need-overflow_cast-low
+cast-low c = omega (arith, c.shared_slice_known-1.given (2 * c.before.args.i))
 
-cast-high : tie.Need-overflow-cast-high
-cast-high c = omega (arith, c.shared-slice-known2.given (2 * c.before.before.args.i + 1))
+cast-high : tie.Need-overflow_cast-high
+cast-high c = omega (arith, c.shared_slice_known-2-1.given (2 * c.before.before.args.i + 1))
 
-mul-result : tie.Need-overflow-mul-result
-mul-result c = omega (arith, c.shared-slice-known2.given (2 * c.before.before.args.i + 1))
+mul-result : tie.Need-overflow_mul-result
+mul-result c = omega (arith, c.shared_slice_known-2-1.given (2 * c.before.before.args.i + 1))
 
-add-result : tie.Need-overflow-add-result
-add-result c = omega (arith, c.before.shared-slice-known.given (2 * c.before.before.args.i), c.shared-slice-known2.given (2 * c.before.before.args.i + 1))
+add-result : tie.Need-overflow_add-result
+add-result c = omega (arith, c.before.shared_slice_known-1.given (2 * c.before.before.args.i), c.shared_slice_known-2-1.given (2 * c.before.before.args.i + 1))
 
-pub word-spec : {M : Type 1} → statement M
-word-spec =
+pub word_spec : {M : Type 1} → statement M
+word_spec =
     tie.close
     (tie.spec (λ c. search rules) (λ c. search rules) cast-low (λ c. search rules) (λ c. search rules) (λ c. search rules) cast-high
     mul-result add-result (λ c. search rules))

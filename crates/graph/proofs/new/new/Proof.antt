@@ -13,69 +13,69 @@ use Rattle.graph.proofs.new.new.Tie as tie
 use Rattle.graph_rules.specs.Layout.{no_state, most_states, graph_size}
 
 -- what is known once the start is read
-legal : (c : tie.After-start) → refusal c.before.before.before.before.before.before.before.before.before.args.table.now ≡ 0
-legal c = sym c.before.before.before.before.before.check.ensures ∙ c.before.before.before.before.if1.false
+legal : (c : tie.After-start-start) → refusal c.before.before.before.before.before.before.before.before.before.args.table.now ≡ 0
+legal c = sym c.before.before.before.before.before.check-refusal.ensures ∙ c.before.before.before.before.if-refusal-ne0.false
 
-few : (c : tie.After-start) → c.before.before.before.states.result ≤ most_states
-few c = let h = few-states c.before.before.before.before.before.before.before.before.before.args.table.now (legal c) in let e = c.before.before.before.states.ensures.0 in omega arith
+few : (c : tie.After-start-start) → c.before.before.before.states-n.result ≤ most_states
+few c = let h = few-states c.before.before.before.before.before.before.before.before.before.args.table.now (legal c) in let e = c.before.before.before.states-n.ensures.0 in omega arith
 
-room : (c : tie.After-start) → graph_size c.before.before.before.states.result ≤ length c.before.before.before.before.before.before.before.before.before.args.graph.now
-room c = let e = c.before.before.place.ensures in let l = c.before.if2.false in omega arith
+room : (c : tie.After-start-start) → graph_size c.before.before.before.states-n.result ≤ length c.before.before.before.before.before.before.before.before.before.args.graph.now
+room c = let e = c.before.before.place.ensures in let l = c.before.if-graph-place.false in omega arith
 
-some-start : (c : tie.After-start) → (c.start.result ≡ no_state → ⊥) → (table_of c.before.before.before.before.before.before.before.before.before.args.table.now).start ≡ some c.start.result
+some-start : (c : tie.After-start-start) → (c.start-start.result ≡ no_state → ⊥) → (table_of c.before.before.before.before.before.before.before.before.before.args.table.now).start ≡ some c.start-start.result
 some-start c n =
     let w = c.before.before.before.before.before.before.before.before.before.args.table.now in
-    start-some w (λ q. n (c.start.ensures.0 ∙ q)) ∙ ap {B = Option ℕ} some (sym c.start.ensures.0)
+    start-some w (λ q. n (c.start-start.ensures.0 ∙ q)) ∙ ap {B = Option ℕ} some (sym c.start-start.ensures.0)
 
-cast-t9 : tie.Need-overflow-cast-t9
-cast-t9 c = let h = refusal-small c.before.before.before.before.before.args.table.now in omega (arith, c.before.check.ensures)
+cast-t9 : tie.Need-overflow_cast-result
+cast-t9 c = let h = refusal-small c.before.before.before.before.before.args.table.now in omega (arith, c.before.check-refusal.ensures)
 
-returns : tie.Need-returns
+returns : tie.Need-returns-then-refusal-ne0
 returns c =
     let st = c.before.before.before.before.before in
-    new-refused st.args.table.now st.args.graph.now st.args.errors.now _ c.before.check.ensures c.if1.true
+    new-refused st.args.table.now st.args.graph.now st.args.errors.now _ c.before.check-refusal.ensures c.if-refusal-ne0.true
 
-states-requires : tie.Need-states-requires
-states-requires c κs = let e = exact c.before.before.before.before.before.args.table.now (sym c.before.check.ensures ∙ c.if1.false) in omega arith
+states-requires : tie.Need-states-n-requires
+states-requires c κs = let e = exact c.before.before.before.before.before.args.table.now (sym c.before.check-refusal.ensures ∙ c.if-refusal-ne0.false) in omega arith
 
-returns-2 : tie.Need-returns-2
+returns-2 : tie.Need-returns-then-graph-place
 returns-2 c =
     let st = c.before.before.before.before.before.before.before.before in
     let e = c.before.place.ensures in
-    new-short st.args.table.now st.args.graph.now st.args.errors.now (sym c.before.before.before.before.check.ensures ∙ c.before.before.before.if1.false) _ c.before.before.states.ensures.0 (omega arith)
+    new-short st.args.table.now st.args.graph.now st.args.errors.now (sym c.before.before.before.before.check-refusal.ensures ∙ c.before.before.before.if-refusal-ne0.false) _ c.before.before.states-n.ensures.0 (omega arith)
 
-start-requires : tie.Need-start-requires
-start-requires c κs = let e = exact c.before.before.before.before.before.before.before.before.args.table.now (sym c.before.before.before.before.check.ensures ∙ c.before.before.before.if1.false) in omega arith
+start-requires : tie.Need-start-start-requires
+start-requires c κs = let e = exact c.before.before.before.before.before.before.before.before.args.table.now (sym c.before.before.before.before.check-refusal.ensures ∙ c.before.before.before.if-refusal-ne0.false) in omega arith
 
-without-start-requires : tie.Need-without-start-requires
+without-start-requires : tie.Need-without_start-requires
 without-start-requires c κs = (few c.before.before.before, room c.before.before.before)
 
-returns-3 : tie.Need-returns-3
+returns-3 : tie.Need-returns-then-start-eq-NONE
 returns-3 c =
     let at = c.before.before.before.before.before.before.before.before in
     let st = at.before.before.before.before.before.before.before.before.before in
-    c.before.before.before.before.without-start.ensures
-    ∙ new-built st.args.table.now st.args.graph.now st.args.errors.now (legal at) _ at.before.before.before.states.ensures.0 (room at) _ (build-none (table_of st.args.table.now) (start_none st.args.table.now (sym at.start.ensures.0 ∙ c.before.before.before.before.before.before.before.if3.true)))
+    c.before.before.before.before.without_start.ensures
+    ∙ new-built st.args.table.now st.args.graph.now st.args.errors.now (legal at) _ at.before.before.before.states-n.ensures.0 (room at) _ (build-none (table_of st.args.table.now) (start_none st.args.table.now (sym at.start-start.ensures.0 ∙ c.before.before.before.before.before.before.before.if-start-eq-NONE.true)))
 
-with-empty-requires : tie.Need-with-empty-requires
-with-empty-requires c κs = (legal c.before.before.before.before.before, (c.before.before.before.count-empty.ensures, (few c.before.before.before.before.before, room c.before.before.before.before.before)))
+with-empty-requires : tie.Need-with_empty-requires
+with-empty-requires c κs = (legal c.before.before.before.before.before, (c.before.before.before.count_empty-count.ensures, (few c.before.before.before.before.before, room c.before.before.before.before.before)))
 
-returns-4 : tie.Need-returns-4
+returns-4 : tie.Need-returns-then-count-ne0
 returns-4 c =
     let at = c.before.before.before.before.before.before.before.before.before.before in
     let st = at.before.before.before.before.before.before.before.before.before in
-    c.before.before.before.before.with-empty.ensures
-    ∙ new-built st.args.table.now st.args.graph.now st.args.errors.now (legal at) _ at.before.before.before.states.ensures.0 (room at) _ (build-empty (table_of st.args.table.now) _ (some-start at c.before.before.before.before.before.before.before.before.before.if3.false) (λ z. c.before.before.before.before.before.before.before.if4.true (c.before.before.before.before.before.before.before.before.count-empty.ensures ∙ z)))
+    c.before.before.before.before.with_empty.ensures
+    ∙ new-built st.args.table.now st.args.graph.now st.args.errors.now (legal at) _ at.before.before.before.states-n.ensures.0 (room at) _ (build-empty (table_of st.args.table.now) _ (some-start at c.before.before.before.before.before.before.before.before.before.if-start-eq-NONE.false) (λ z. c.before.before.before.before.before.before.before.if-count-ne0.true (c.before.before.before.before.before.before.before.before.count_empty-count.ensures ∙ z)))
 
-with-states-requires : tie.Need-with-states-requires
-with-states-requires c κs = (legal c.before.before.before.before.before, (some-start c.before.before.before.before.before c.before.before.before.before.if3.false, (c.before.before.before.before.before.before.before.before.states.ensures.0, room c.before.before.before.before.before)))
+with-states-requires : tie.Need-with_states-requires
+with-states-requires c κs = (legal c.before.before.before.before.before, (some-start c.before.before.before.before.before c.before.before.before.before.if-start-eq-NONE.false, (c.before.before.before.before.before.before.before.before.states-n.ensures.0, room c.before.before.before.before.before)))
 
-returns-5 : tie.Need-returns-5
+returns-5 : tie.Need-returns
 returns-5 c =
     let at = c.before.before.before.before.before.before.before.before.before.before in
     let st = at.before.before.before.before.before.before.before.before.before in
-    c.before.before.before.before.with-states.ensures
-    ∙ new-built st.args.table.now st.args.graph.now st.args.errors.now (legal at) _ at.before.before.before.states.ensures.0 (room at) _ (build-states (table_of st.args.table.now) _ (some-start at c.before.before.before.before.before.before.before.before.before.if3.false) (sym c.before.before.before.before.before.before.before.before.count-empty.ensures ∙ c.before.before.before.before.before.before.before.if4.false))
+    c.before.before.before.before.with_states.ensures
+    ∙ new-built st.args.table.now st.args.graph.now st.args.errors.now (legal at) _ at.before.before.before.states-n.ensures.0 (room at) _ (build-states (table_of st.args.table.now) _ (some-start at c.before.before.before.before.before.before.before.before.before.if-start-eq-NONE.false) (sym c.before.before.before.before.before.before.before.before.count_empty-count.ensures ∙ c.before.before.before.before.before.before.before.if-count-ne0.false))
 
 pub new_spec : {M : Type 1} → statement M
 new_spec =

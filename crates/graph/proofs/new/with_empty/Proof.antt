@@ -22,33 +22,33 @@ words_are : (st : tie.Start) → length (conflicts (built st)) ≡ 3 * st.args.c
 unfolding conflicts
 words_are st = empty-words (empty_leaves (table_of st.args.table.now)) ∙ ap (λ (k : ℕ). 3 * k) (sym st.requires.1.0)
 
-mul_words : tie.Need-overflow-mul-words
+mul_words : tie.Need-overflow_mul-words
 mul_words c =
     let st = c.before.before.before in
     let h = few-empty st.args.table.now st.requires.0 in
     let e = st.requires.1.0 in
     omega arith
 
-returns : tie.Need-returns
+returns : tie.Need-returns-then-errors-words
 returns c =
     let st = c.before.before.before.before in
     short st.args.n (built st) st.args.graph.now st.args.errors.now (let e = words_are st in omega arith)
 
-write-empty-requires : tie.Need-write-empty-requires
+write-empty-requires : tie.Need-write_empty-requires
 unfolding conflicts
 write-empty-requires c κs =
     let st = c.before.before.before.before.before in
     let e : length (flat_map error_words (map empty_match (empty_leaves (table_of st.args.table.now)))) ≡ 3 * st.args.count = words_are st in
     (st.requires.0, omega arith)
 
-returns-2 : tie.Need-returns-2
+returns-2 : tie.Need-returns
 returns-2 c =
     let st = c.before.before.before.before.before.before.before.before.before.before.before.before in
     let e = words_are st in
     let n : st.args.count ≡ length (map empty_match (empty_leaves (table_of st.args.table.now))) = st.requires.1.0 ∙ sym (length-map (empty_leaves (table_of st.args.table.now)) empty_match) in
     enough st.args.n (built st) st.args.graph.now st.args.errors.now (omega arith) _ _ _
-    c.before.before.no-states.ensures c.before.before.before.before.before.before.write-empty.ensures (λ i. record { states = 0; root = 0; errors = n i; words = sym e i })
+    c.before.before.no_states.ensures c.before.before.before.before.before.before.write_empty.ensures (λ i. record { states = 0; root = 0; errors = n i; words = sym e i })
 
-pub with-empty-spec : {M : Type 1} → statement M
-with-empty-spec =
+pub with_empty_spec : {M : Type 1} → statement M
+with_empty_spec =
     tie.close (tie.spec mul_words returns write-empty-requires (λ c κs. search rules) (λ c. search rules) (λ c. search rules) returns-2)

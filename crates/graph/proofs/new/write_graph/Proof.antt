@@ -40,7 +40,7 @@ returns c =
       merge.merge.ensures.1,
     )
 
-pub write-graph-spec : {M : Type 1} → statement M
-write-graph-spec =
+pub write_graph_spec : {M : Type 1} → statement M
+write_graph_spec =
     tie.close
     (tie.spec write-requires early-requires (λ c κs. search rules) (λ c κs. search rules) (λ c κs. search rules) (λ c. search rules) returns)

@@ -6,29 +6,29 @@ use borrow.Author.Rules.{rules}
 use Rattle.scans.proofs.scan.entry_by.Statement.{statement}
 use Rattle.scans.proofs.scan.entry_by.Tie as tie
 
-returns : tie.Need-returns
+returns : tie.Need-returns-then-r-eq-NO_LEAF
 returns c =
     let a = c.before.before.before.before.args in
-    c.gap.ensures ∙ sym (gives_none a.text.now a.at _ a.r.leaf a.r.end refl c.before.if1.true)
+    c.gap.ensures ∙ sym (gives_none a.text.now a.at _ a.r.leaf a.r.end refl c.before.if-r-eq-NO_LEAF.true)
 
-returns-2 : tie.Need-returns-2
+returns-2 : tie.Need-returns-then-r-eq0
 returns-2 c =
     let at = c.before.before.before in
     let a = at.before.before.before.args in
-    c.gap2.ensures ∙ sym (gives-empty a.text.now a.at _ a.r.leaf a.r.end refl at.if1.false c.before.if2.true)
+    c.gap-then-r-eq0.ensures ∙ sym (gives-empty a.text.now a.at _ a.r.leaf a.r.end refl at.if-r-eq-NO_LEAF.false c.before.if-r-eq0.true)
 
-add-end : tie.Need-overflow-add-end
+add-end : tie.Need-overflow_add-end
 add-end c =
     let at = c.before.before.before in
-    let h = at.before.before.before.requires.1 at.if1.false in
+    let h = at.before.before.before.requires.1 at.if-r-eq-NO_LEAF.false in
     omega arith
 
-returns-3 : tie.Need-returns-3
+returns-3 : tie.Need-returns
 returns-3 c =
     let at = c.before.before.before in
     let a = at.before.before.before.args in
-    sym (gives-token a.text.now a.at _ a.r.leaf a.r.end refl at.if1.false c.before.if2.false)
+    sym (gives-token a.text.now a.at _ a.r.leaf a.r.end refl at.if-r-eq-NO_LEAF.false c.before.if-r-eq0.false)
 
-pub entry-by-spec : {M : Type 1} → statement M
-entry-by-spec =
+pub entry_by_spec : {M : Type 1} → statement M
+entry_by_spec =
     tie.close (tie.spec (λ c κs. search rules) returns (λ c κs. search rules) returns-2 add-end returns-3)

@@ -9,5 +9,5 @@ returns : tie.Need-returns
 unfolding gap_length
 returns c = refl
 
-pub gap-spec : {M : Type 1} → statement M
-gap-spec = tie.close (tie.spec (λ c. search rules) returns)
+pub gap_spec : {M : Type 1} → statement M
+gap_spec = tie.close (tie.spec (λ c. search rules) returns)
