@@ -4,16 +4,18 @@ ghost use Rattle.printer.specs.Moved.{ReadWithin};
 
 use crate::moved;
 use crate::moved::Step;
+use std::io;
 
-// How many bytes were read, to the end of the input or of the room; or a read has failed, and errno says why.
+// How many bytes were read, to the end of the input or of the room; or a read has failed.
 #[derive(Clone, Copy)]
 pub enum Read {
     Bytes(usize),
     Broken,
 }
 
-// Reads until the input ends or the buffer is full. A proved loop has to end, so the reads are counted, from a number that no run uses up.
-pub fn read_all(buf: &mut [u8]) -> Read
+// Reads until the input ends or the buffer is full, or tells on standard error why not. A proved loop has to end, so the reads are counted, from a
+// number that no run uses up.
+pub fn read_all<R: io::Read>(rt: &impl Eprint, input: &mut R, buf: &mut [u8]) -> Read
     ensures { ReadWithin (length buf.old) result }
 {
     let mut done: usize = 0;
@@ -23,7 +25,7 @@ pub fn read_all(buf: &mut [u8]) -> Read
         if done == buf.len() {
             return Read::Bytes(done);
         }
-        let got = libc::read(libc::STDIN_FILENO, &mut buf[done..]);
+        let got = io::Read::read(input, &mut buf[done..]);
         match moved::judged(got, &buf[done..]) {
             Step::Moved(n) => {
                 done += n;
@@ -32,6 +34,7 @@ pub fn read_all(buf: &mut [u8]) -> Read
                 return Read::Bytes(done);
             }
             Step::Failed => {
+                moved::tell(rt, "printer: standard input", got);
                 return Read::Broken;
             }
         }

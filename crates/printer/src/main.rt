@@ -1,8 +1,8 @@
 // The graph printer: reads a table's image on standard input, and prints its graph and its conflicts, or the number of the refusal. What it
 // prints for which image is `print::print`, defined in crates/print/specs/Print.antt; this program only reads and writes around it.
 //
-// An image has at most 65,536 bytes; one more is read, to tell that it is longer. A read or a write that fails is told on standard error, and after
-// a failed read nothing is printed. (The kit's programs cannot end with a status of their own.)
+// An image has at most 65,536 bytes; one more is read, to tell that it is longer. A read or a write that fails is told on standard error, and the
+// program then ends with status 1; after a failed read nothing is printed.
 #![tactic(auto)]
 
 ghost use Rattle.std.specs.Prelude.{◌≡◌, length};
@@ -10,6 +10,8 @@ ghost use Rattle.print.specs.Print.{most_printed};
 
 use display::Shown;
 use input::Read;
+use std::io::Write;
+use std::process::ExitCode;
 
 mod input;
 mod moved;
@@ -23,10 +25,10 @@ fn room() -> [u8; print::ROOM]
 }
 
 // Prints all that is to be printed for an image, and answers whether all of it was written.
-fn show(image: &[u8]) -> bool {
+fn show<W: Write>(rt: &impl Eprint, out: &mut W, image: &[u8]) -> bool {
     let mut text = room();
     match print::print(image, &mut text) {
-        Shown::Bytes(n) => output::write_all(&text[..n]),
+        Shown::Bytes(n) => output::write_all(rt, out, &text[..n]),
         Shown::Refused(_) => {
             // never, as is proved: the room suffices
             check::expect(false);
@@ -35,12 +37,17 @@ fn show(image: &[u8]) -> bool {
     }
 }
 
-fn main() {
+fn main(rt: HostRuntime) -> ExitCode {
     let mut space = [0u8; 65537];
-    match input::read_all(&mut space) {
-        Read::Bytes(n) => {
-            show(&space[..n]);
-        }
-        Read::Broken => os::fail(b"printer: standard input"),
+    let mut input = rt.stdin();
+    let mut out = rt.stdout();
+    let done = match input::read_all(&rt, &mut input, &mut space) {
+        Read::Bytes(n) => show(&rt, &mut out, &space[..n]),
+        Read::Broken => false,
+    };
+    if done {
+        ExitCode::SUCCESS
+    } else {
+        ExitCode::FAILURE
     }
 }

@@ -1,9 +1,11 @@
-// What one call of the system's read or write has done.
+// What one call of a reader or a writer has done.
 ghost use Rattle.std.specs.Prelude.{length};
 ghost use Rattle.printer.specs.Moved.{StepWithin};
 
-// So many bytes were moved, none if a signal came before the first; the input has ended, or the output takes nothing; or the call has failed,
-// and errno says why.
+use std::io;
+use std::io::ErrorKind;
+
+// So many bytes were moved, none if a signal came before the first; the input has ended, or the output takes nothing; or the call has failed.
 #[derive(Clone, Copy)]
 pub enum Step {
     Moved(usize),
@@ -12,17 +14,24 @@ pub enum Step {
 }
 
 // What a call has done, by its answer and the bytes that it was handed.
-pub fn judged(got: isize, buf: &[u8]) -> Step
+pub fn judged(got: io::Result<usize>, buf: &[u8]) -> Step
     ensures { StepWithin (length buf.now) result }
 {
-    if got > 0 {
-        return Step::Moved(io::count(got, buf));
+    match got {
+        Ok(0) => Step::End,
+        Ok(n) => Step::Moved(n.min(buf.len())),
+        Err(e) => {
+            if e.kind() == ErrorKind::Interrupted {
+                return Step::Moved(0);
+            }
+            Step::Failed
+        }
     }
-    if got == 0 {
-        return Step::End;
+}
+
+// Tells on standard error what failed, and why.
+pub(crate) fn tell(rt: &impl Eprint, what: &str, got: io::Result<usize>) {
+    if let Err(e) = got {
+        let _ = eprintln!(rt; "{what}: {e}");
     }
-    if os::errno() == libc::EINTR {
-        return Step::Moved(0);
-    }
-    Step::Failed
 }

@@ -1,10 +1,11 @@
 // Standard output, written whole.
 use crate::moved;
 use crate::moved::Step;
+use std::io;
 
 // Writes all of a text, in as many writes as it takes, or tells on standard error why not; answers whether all of it was written. As in
 // `read_all`, the writes are counted.
-pub(crate) fn write_all(text: &[u8]) -> bool {
+pub(crate) fn write_all<W: io::Write>(rt: &impl Eprint, out: &mut W, text: &[u8]) -> bool {
     let mut done: usize = 0;
     let mut writes = u64::MAX;
     while writes > 0 {
@@ -12,16 +13,20 @@ pub(crate) fn write_all(text: &[u8]) -> bool {
         if done == text.len() {
             return true;
         }
-        let put = libc::write(libc::STDOUT_FILENO, &text[done..]);
+        let put = io::Write::write(out, &text[done..]);
         match moved::judged(put, &text[done..]) {
             Step::Moved(n) => {
                 done += n;
             }
-            Step::End | Step::Failed => {
-                break;
+            Step::End => {
+                let _ = eprintln!(rt; "printer: standard output: it takes no more");
+                return false;
+            }
+            Step::Failed => {
+                moved::tell(rt, "printer: standard output", put);
+                return false;
             }
         }
     }
-    os::fail(b"printer: standard output");
     false
 }

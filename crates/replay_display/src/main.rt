@@ -2,7 +2,7 @@
 // writes.
 #![tactic(auto)]
 
-mod texts;
+mod text_cases;
 
 use vectors::walk::Walk;
 
@@ -28,8 +28,8 @@ fn replay(list: &[u8]) -> Walk {
 // The case with number i.
 fn alike(case: &[u8], i: usize) -> bool {
     match vectors::cases::kind(case) {
-        0 => texts::alike(false, case, i),
-        1 => texts::alike(true, case, i),
+        0 => text_cases::alike(false, case, i),
+        1 => text_cases::alike(true, case, i),
         _ => false,
     }
 }

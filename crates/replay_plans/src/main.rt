@@ -2,7 +2,7 @@
 // the plan. Answers, refusals, the lent buffers and the whole store are compared with what the original answers.
 #![tactic(auto)]
 
-mod lists;
+mod listings;
 mod plan;
 mod run;
 

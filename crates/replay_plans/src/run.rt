@@ -82,10 +82,10 @@ fn by_plan(
     read_number(plans::run::run(graph, given, store, text)) == outcome(case)
         && read_number(plans::run::run(graph, longer, wider, text)) == outcome(case)
         && (if number(case, 4) == 0 {
-            by_walk == outcome(case) && crate::lists::alike(graph, given, store, text, i)
+            by_walk == outcome(case) && crate::listings::alike(graph, given, store, text, i)
         } else {
             number(case, 5) == 65535
-                && crate::lists::all_refuse(graph, given, store, text, number(case, 4))
+                && crate::listings::all_refuse(graph, given, store, text, number(case, 4))
         })
 }
 
@@ -124,5 +124,5 @@ pub(crate) fn refused_alike(
     refusal: usize,
 ) -> bool {
     refused(plans::run::run(graph, plan, store, text), refusal)
-        && crate::lists::all_refuse(graph, plan, store, text, refusal)
+        && crate::listings::all_refuse(graph, plan, store, text, refusal)
 }

@@ -3,7 +3,7 @@
 #![tactic(auto)]
 
 mod literals;
-mod trees;
+mod tree_cases;
 
 use vectors::walk::Walk;
 
@@ -35,7 +35,7 @@ fn alike(case: &[u8]) -> bool {
     match vectors::cases::kind(case) {
         0 => literals::row_alike(case),
         1 => literals::string_alike(case),
-        2 => trees::alike(case),
+        2 => tree_cases::alike(case),
         _ => false,
     }
 }

@@ -3,10 +3,10 @@
 // the stored one.
 #![tactic(auto)]
 
-mod lists;
+mod listings;
 mod scan;
 mod tables;
-mod texts;
+mod text_cases;
 
 use vectors::cases::kind;
 use vectors::walk::Walk;
@@ -40,9 +40,9 @@ fn replay(list: &[u8]) -> Walk {
 fn alike(host: &[u8], case: &[u8], i: usize) -> bool {
     match kind(case) {
         0 => tables::alike(case),
-        1 => texts::graph_alike(case),
-        2 => kind(host) == 0 && texts::of_table(host, case, i),
-        3 => kind(host) == 1 && texts::of_graph(host, case, i),
+        1 => text_cases::graph_alike(case),
+        2 => kind(host) == 0 && text_cases::of_table(host, case, i),
+        3 => kind(host) == 1 && text_cases::of_graph(host, case, i),
         _ => false,
     }
 }

@@ -45,7 +45,7 @@ pub(crate) fn of_table(host: &[u8], case: &[u8], i: usize) -> bool {
         && read_number(graph::read::read_graph(whole, text)) == number(case, 1)
         && (number(host, 0) == 0 || number(case, 0) == number(case, 1))
         && crate::scan::alike(graph, text, 0, entries)
-        && crate::lists::alike(whole, text, 0, entries, i)
+        && crate::listings::alike(whole, text, 0, entries, i)
 }
 
 // The text with number i, of a graph, and a scan from an offset, which may be refused.
@@ -61,10 +61,10 @@ pub(crate) fn of_graph(host: &[u8], case: &[u8], i: usize) -> bool {
         && read_number(graph::read::read_graph(graph, text)) == number(case, 0)
         && (if refusal == 0 {
             crate::scan::alike(graph, text, offset, entries)
-                && crate::lists::alike(graph, text, offset, entries, i)
+                && crate::listings::alike(graph, text, offset, entries, i)
         } else {
             entries.len() == 0
-                && crate::lists::refused(crate::scan::begun(offset), graph, text, refusal)
+                && crate::listings::refused(crate::scan::begun(offset), graph, text, refusal)
         })
 }
 
@@ -86,8 +86,8 @@ pub(crate) fn graph_alike(case: &[u8]) -> bool {
         } else {
             refusal == 12
                 && read == REFUSED + 12
-                && crate::lists::refused(crate::scan::begun(0), graph, text, 12)
-                && crate::lists::refused(crate::scan::begun(text.len() + 1), graph, text, 12)
-                && crate::lists::refused(over, graph, text, 12)
+                && crate::listings::refused(crate::scan::begun(0), graph, text, 12)
+                && crate::listings::refused(crate::scan::begun(text.len() + 1), graph, text, 12)
+                && crate::listings::refused(over, graph, text, 12)
         })
 }
