@@ -7,4 +7,3 @@ pub mod Adding
 pub mod Several
 pub mod Writing
 pub mod Luts
-pub mod Values

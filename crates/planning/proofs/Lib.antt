@@ -1,4 +1,3 @@
 pub mod Planning
 pub mod StoreAfter
-pub mod PlanValues
 pub mod Report

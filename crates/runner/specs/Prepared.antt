@@ -6,7 +6,6 @@ use Rattle.graph_rules.specs.Layout.{most_states}
 use Rattle.graph_rules.specs.Graph.{Graph, state_of}
 use Rattle.classes.specs.Classes.{Class, Comparison, comparisons}
 use Rattle.classes.specs.ClassAnswers.{listed}
-use Rattle.mask_store.specs.Layout.{most_masks}
 use Rattle.edges.specs.Edges.{class_to, targets}
 use Rattle.plan_rules.specs.declared.Way.TheVariants.{ByTests}
 use Rattle.plan_rules.specs.Plan.{base, by_table, way_to, plan_words, plan_size}

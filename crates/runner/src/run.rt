@@ -3,7 +3,6 @@ ghost use Rattle.std.specs.Prelude.{◌≡◌, true, ◌≤◌, length};
 ghost use Rattle.std.proofs.Math.Option.{none};
 ghost use Rattle.graph_rules.specs.Graph.{graph_fits, graph_from};
 ghost use Rattle.readings.specs.Answers.{recorded};
-ghost use Rattle.mask_store.specs.Layout.{store_size};
 ghost use Rattle.plan_rules.specs.Plan.{base, plan_size};
 ghost use Rattle.plan_rules.specs.Run.{run_from, rows_of};
 ghost use Rattle.runner.specs.Prepared.{edges_size, tests_size, Prepared, PlanOn};

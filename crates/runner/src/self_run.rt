@@ -1,6 +1,5 @@
 // The self run (docs/RULES.md, "Planned run").
 ghost use Rattle.std.specs.Prelude.{◌≡◌, true, false, ℕ, ◌<◌, ◌≤◌, ◌+◌, ◌*◌, length, get_or};
-ghost use Rattle.mask_store.specs.Layout.{store_size, most_masks};
 ghost use Rattle.mask_store.specs.Masks.{mask_has};
 ghost use Rattle.plan_rules.specs.Plan.{base, own_place};
 ghost use Rattle.plan_rules.specs.Run.{self_takes};

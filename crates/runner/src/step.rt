@@ -4,7 +4,6 @@ ghost use Rattle.std.specs.Prelude.{◌≡◌, true, [], ℕ, ◌+◌, ◌<◌, 
 ghost use Rattle.graph_rules.specs.Layout.{no_state};
 ghost use Rattle.graph_rules.specs.Graph.{State, graph_fits, graph_from, or_none};
 ghost use Rattle.classes.specs.Classes.{comparisons};
-ghost use Rattle.mask_store.specs.Layout.{most_masks};
 ghost use Rattle.edges.specs.Edges.{class_to};
 ghost use Rattle.plan_rules.specs.Plan.{base, own_place};
 ghost use Rattle.plan_rules.specs.Run.{edge_takes, led_by, rows_of};

@@ -85,12 +85,12 @@ add-from-2 c = let f = first-long (loop-of c) (omega arith) in omega (arith, cou
 loop-again : tie.Need-loop-left-preserved invariant-loop decreases-loop
 loop-again c =
     let l = loop-of c in
-    let h : 0 < l.loop.left = omega arith in
+    let h : 0 < l.loop-left.left = omega arith in
     let e = next-rest l h c.word.result (count c) in
     let w = rw (whole l) at c.before.before.before.error_line-next.ensures in (
       (let f = first-long l h in omega (arith, count c)),
-      subst (λ (r : List ℕ). errors_fit (l.loop.left - 1) r ≡ true) e (fit_next l.loop.left (rest l) h l.loop.invariant.1).1,
-      underway-as (ap (error_lines (l.loop.left - 1)) e) (goes (line (line_of (rest l))) (error_lines (l.loop.left - 1) (later (rest l))) (ahead l h) w),
+      subst (λ (r : List ℕ). errors_fit (l.loop-left.left - 1) r ≡ true) e (fit_next l.loop-left.left (rest l) h l.loop-left.invariant.1).1,
+      underway-as (ap (error_lines (l.loop-left.left - 1)) e) (goes (line (line_of (rest l))) (error_lines (l.loop-left.left - 1) (later (rest l))) (ahead l h) w),
     )
 
 returns : tie.Need-returns invariant-loop decreases-loop

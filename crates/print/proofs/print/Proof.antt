@@ -21,10 +21,10 @@ abbrev image : tie.After-from_image-answer → List ℕ
 image f = (start f).args.image.now
 
 abbrev graph : tie.After-from_image-answer → List ℕ
-graph f = f.from_image-answer.new.errors.0
+graph f = f.from_image-answer.new.graph
 
 abbrev errors : tie.After-from_image-answer → List ℕ
-errors f = f.from_image-answer.new.errors.1.0
+errors f = f.from_image-answer.new.errors
 
 -- what the build has answered and left
 left : (f : tie.After-from_image-answer) → record { answer = f.from_image-answer.result; graph = graph f; errors = errors f } ≡ image_of (image f) space space

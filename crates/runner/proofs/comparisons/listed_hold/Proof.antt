@@ -6,16 +6,16 @@ use Rattle.runner.proofs.Packed.{parts-hold}
 use Rattle.runner.proofs.comparisons.listed_hold.Statement.{statement}
 use Rattle.runner.proofs.comparisons.listed_hold.Tie as tie
 
-cast-count : tie.Need-overflow-cast-count
-cast-count c = omega (arith, c.shared-slice-known2.given (slot c.before.before.args.e))
+cast-count : tie.Need-overflow_cast-count
+cast-count c = omega (arith, c.shared_slice_known-2-1.given (slot c.before.before.args.e))
 
 returns : tie.Need-returns
 returns c =
     let given = c.before.before.before.before.before.before.before.args in
     rw c.some_holds.ensures (parts-hold given.tests.now given.e given.byte)
 
-pub listed-hold-spec : {M : Type 1} → statement M
-listed-hold-spec =
+pub listed_hold_spec : {M : Type 1} → statement M
+listed_hold_spec =
     tie.close
     (tie.spec (λ c. search rules) (λ c. search rules) cast-count (λ c. search rules) (λ c. search rules) (λ c. search rules)
     (λ c. search rules) (λ c. search rules) (λ c. search rules) (λ c. search rules) (λ c. search rules) (λ c. search rules)

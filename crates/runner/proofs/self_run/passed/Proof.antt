@@ -11,25 +11,25 @@ use Rattle.runner.proofs.SelfRun.{self-none, self-some}
 use Rattle.runner.proofs.self_run.passed.Statement.{statement}
 use Rattle.runner.proofs.self_run.passed.Tie as tie
 
-returns : tie.Need-returns
+returns : tie.Need-returns-then-w-eq0
 returns c =
     let a = c.before.before.before.before in
-    ((omega arith, omega arith), (λ j h l. absurd (omega arith), λ h. self-none a.args.tables.now _ _ (sym c.before.own.ensures ∙ c.if1.true)))
+    ((omega arith, omega arith), (λ j h l. absurd (omega arith), λ h. self-none a.args.tables.now _ _ (sym c.before.own-w.ensures ∙ c.if-w-eq0.true)))
 
-self-run-requires : tie.Need-self-run-requires
+self-run-requires : tie.Need-self_run-requires
 self-run-requires c κs =
     let p = c.before.before.before.before.requires in
-    let e : c.before.own.result ≡ get_or c.before.before.before.before.args.plan.now (own_place base c.before.before.before.before.args.s) 0 = c.before.own.ensures in
-    (omega (arith, p.1, c.if1.false), p.2, p.3)
+    let e : c.before.own-w.result ≡ get_or c.before.before.before.before.args.plan.now (own_place base c.before.before.before.before.args.s) 0 = c.before.own-w.ensures in
+    (omega (arith, p.1, c.if-w-eq0.false), p.2, p.3)
 
-returns-2 : tie.Need-returns-2
+returns-2 : tie.Need-returns
 returns-2 c =
     let a = c.before.before.before.before.before.args in
-    let e : get_or a.plan.now (own_place base a.s) 0 ≡ c.before.before.own.result = sym c.before.before.own.ensures in
-    let takes : (b : ℕ) → self_takes a.tables.now (get_or a.plan.now (own_place base a.s) 0) b ≡ mask_has a.tables.now (c.before.before.own.result - 1) b =
-    λ b. ap (λ (x : ℕ). self_takes a.tables.now x b) e ∙ self-some a.tables.now c.before.before.own.result b c.before.if1.false in
-    (c.self-run.ensures.0, (λ j h l. takes _ ∙ c.self-run.ensures.1.0 j h l, λ h. takes _ ∙ c.self-run.ensures.1.1 h))
+    let e : get_or a.plan.now (own_place base a.s) 0 ≡ c.before.before.own-w.result = sym c.before.before.own-w.ensures in
+    let takes : (b : ℕ) → self_takes a.tables.now (get_or a.plan.now (own_place base a.s) 0) b ≡ mask_has a.tables.now (c.before.before.own-w.result - 1) b =
+    λ b. ap (λ (x : ℕ). self_takes a.tables.now x b) e ∙ self-some a.tables.now c.before.before.own-w.result b c.before.if-w-eq0.false in
+    (c.self_run.ensures.0, (λ j h l. takes _ ∙ c.self_run.ensures.1.0 j h l, λ h. takes _ ∙ c.self_run.ensures.1.1 h))
 
-pub passed-spec : {M : Type 1} → statement M
-passed-spec =
+pub passed_spec : {M : Type 1} → statement M
+passed_spec =
     tie.close (tie.spec (λ c κs. search rules) returns (λ c. search rules) self-run-requires returns-2)

@@ -8,72 +8,72 @@ use borrow.Author.Rules.{rules}
 use Rattle.runner.proofs.step.step.Statement.{statement}
 use Rattle.runner.proofs.step.step.Tie as tie
 
-abbrev start : tie.After-edge → tie.Start
+abbrev start : tie.After-edge-w → tie.Start
 start w = w.before.before.before.before.before
 
 -- its edges stand within the buffers
-room : (w : tie.After-edge) → (start w).args.s < most_states
-room w = let a = start w in omega (arith, a.pre.1.1.1.0, taken-few a.args.graph.now a.pre.0)
+room : (w : tie.After-edge-w) → (start w).args.s < most_states
+room w = let a = start w in omega (arith, a.requires.1.1.1.0, taken-few a.args.graph.now a.requires.0)
 
-returns : tie.Need-returns
+returns : tie.Need-returns-then-w
 returns c =
     let w = c.before.before in
     let a = start w in
-    by-table a.args.graph.now a.args.plan.now a.args.ends.now a.args.tests.now a.args.tables.now a.pre.0 a.pre.1.0 a.pre.1.1.0.1.1 a.args.s a.args.byte a.pre.1.1.1.0 w.edge.result w.edge.ensures c.target.result c.before.if1.true c.target.ensures
+    by-table a.args.graph.now a.args.plan.now a.args.ends.now a.args.tests.now a.args.tables.now a.requires.0 a.requires.1.0 a.requires.1.1.0.1.1 a.args.s a.args.byte a.requires.1.1.1.0 w.edge-w.result w.edge-w.ensures c.target.result c.before.if-w.true c.target.ensures
 
-edge-place-requires : tie.Need-edge-place-requires
+edge-place-requires : tie.Need-edge_place-first-requires
 edge-place-requires c κs = (room c.before, omega arith)
 
-edge-takes-requires : tie.Need-edge-takes-requires
+edge-takes-requires : tie.Need-edge_takes-requires
 edge-takes-requires c κs =
     let w = c.before.before in
     let a = start w in
-    (first-few a.args.graph.now a.args.plan.now a.args.ends.now a.args.tests.now a.args.tables.now a.pre.0 a.pre.1.0 a.pre.1.1.0.1.1 a.args.s a.args.byte a.pre.1.1.1.0 w.edge.result w.edge.ensures c.before.if1.false, omega (arith, c.edge-place.ensures, room w), a.pre.1.1.0.1.0)
+    (first-few a.args.graph.now a.args.plan.now a.args.ends.now a.args.tests.now a.args.tables.now a.requires.0 a.requires.1.0 a.requires.1.1.0.1.1 a.args.s a.args.byte a.requires.1.1.1.0 w.edge-w.result w.edge-w.ensures c.before.if-w.false, omega (arith, c.edge_place-first.ensures, room w), a.requires.1.1.0.1.0)
 
 word-requires : tie.Need-word-requires
-word-requires c κs = let at = c.before.before in let w = at.before.before in omega (arith, at.edge-place.ensures, room w, (start w).requires.1.1.0.0)
+word-requires c κs = let at = c.before.before in let w = at.before.before in omega (arith, at.edge_place-first.ensures, room w, (start w).requires.1.1.0.0)
 
-returns-2 : tie.Need-returns-2
+returns-2 : tie.Need-returns-then-edge_takes
 returns-2 c =
     let e = c.before.before in
     let w = e.before.before.before in
     let a = start w in
-    by_first a.args.graph.now a.args.plan.now a.args.ends.now a.args.tests.now a.args.tables.now a.pre.0 a.pre.1.0 a.pre.1.1.0.1.1 a.args.s a.args.byte a.pre.1.1.1.0 w.edge.result w.edge.ensures e.before.before.if1.false e.before.edge-place.ensures e.edge-takes.result e.edge-takes.ensures c.word.result c.before.if2.true c.word.ensures.0
+    by_first a.args.graph.now a.args.plan.now a.args.ends.now a.args.tests.now a.args.tables.now a.requires.0 a.requires.1.0 a.requires.1.1.0.1.1 a.args.s a.args.byte a.requires.1.1.1.0 w.edge-w.result w.edge-w.ensures e.before.before.if-w.false e.before.edge_place-first.ensures e.edge_takes.result e.edge_takes.ensures c.word.result c.before.if-edge_takes.true c.word.ensures.0
 
-edge-place-requires-2 : tie.Need-edge-place-requires-2
+edge-place-requires-2 : tie.Need-edge_place-second-requires
 edge-place-requires-2 c κs = (room c.before.before.before.before.before, omega arith)
 
-edge-takes-requires-2 : tie.Need-edge-takes-requires-2
+edge-takes-requires-2 : tie.Need-edge_takes-requires-2
 edge-takes-requires-2 c κs =
     let v = c.before in
     let e = v.before.before in
     let w = e.before.before.before in
     let a = start w in
-    (second-few a.args.graph.now a.args.plan.now a.args.ends.now a.args.tests.now a.args.tables.now a.pre.0 a.pre.1.0 a.pre.1.1.0.1.1 a.args.s a.args.byte a.pre.1.1.1.0 w.edge.result w.edge.ensures e.before.before.if1.false v.edge2.result v.edge2.ensures, omega (arith, c.edge-place2.ensures, room w), a.pre.1.1.0.1.0)
+    (second-few a.args.graph.now a.args.plan.now a.args.ends.now a.args.tests.now a.args.tables.now a.requires.0 a.requires.1.0 a.requires.1.1.0.1.1 a.args.s a.args.byte a.requires.1.1.1.0 w.edge-w.result w.edge-w.ensures e.before.before.if-w.false v.edge-v.result v.edge-v.ensures, omega (arith, c.edge_place-second.ensures, room w), a.requires.1.1.0.1.0)
 
-word-requires-2 : tie.Need-word-requires-2
+word-requires-2 : tie.Need-word-requires-then-edge_takes-2
 word-requires-2 c κs =
     let at = c.before.before in
     let w = at.before.before.before.before.before.before in
-    omega (arith, at.edge-place2.ensures, room w, (start w).requires.1.1.0.0)
+    omega (arith, at.edge_place-second.ensures, room w, (start w).requires.1.1.0.0)
 
-returns-3 : tie.Need-returns-3
+returns-3 : tie.Need-returns-then-edge_takes-2
 returns-3 c =
     let x = c.before.before in
     let v = x.before.before in
     let e = v.before.before in
     let w = e.before.before.before in
     let a = start w in
-    by-second a.args.graph.now a.args.plan.now a.args.ends.now a.args.tests.now a.args.tables.now a.pre.0 a.pre.1.0 a.pre.1.1.0.1.1 a.args.s a.args.byte a.pre.1.1.1.0 w.edge.result w.edge.ensures e.before.before.if1.false e.before.edge-place.ensures e.edge-takes.result e.edge-takes.ensures v.before.if2.false v.edge2.result v.edge2.ensures x.before.edge-place2.ensures x.edge-takes2.result x.edge-takes2.ensures c.word2.result c.before.if3.true c.word2.ensures.0
+    by-second a.args.graph.now a.args.plan.now a.args.ends.now a.args.tests.now a.args.tables.now a.requires.0 a.requires.1.0 a.requires.1.1.0.1.1 a.args.s a.args.byte a.requires.1.1.1.0 w.edge-w.result w.edge-w.ensures e.before.before.if-w.false e.before.edge_place-first.ensures e.edge_takes.result e.edge_takes.ensures v.before.if-edge_takes.false v.edge-v.result v.edge-v.ensures x.before.edge_place-second.ensures x.edge_takes-2.result x.edge_takes-2.ensures c.word-then-edge_takes-2.result c.before.if-edge_takes-2.true c.word-then-edge_takes-2.ensures.0
 
-returns-4 : tie.Need-returns-4
+returns-4 : tie.Need-returns
 returns-4 c =
     let x = c.before in
     let v = x.before.before in
     let e = v.before.before in
     let w = e.before.before.before in
     let a = start w in
-    by-none a.args.graph.now a.args.plan.now a.args.ends.now a.args.tests.now a.args.tables.now a.pre.0 a.pre.1.0 a.pre.1.1.0.1.1 a.args.s a.args.byte a.pre.1.1.1.0 w.edge.result w.edge.ensures e.before.before.if1.false e.before.edge-place.ensures e.edge-takes.result e.edge-takes.ensures v.before.if2.false v.edge2.result v.edge2.ensures x.before.edge-place2.ensures x.edge-takes2.result x.edge-takes2.ensures c.if3.false
+    by-none a.args.graph.now a.args.plan.now a.args.ends.now a.args.tests.now a.args.tables.now a.requires.0 a.requires.1.0 a.requires.1.1.0.1.1 a.args.s a.args.byte a.requires.1.1.1.0 w.edge-w.result w.edge-w.ensures e.before.before.if-w.false e.before.edge_place-first.ensures e.edge_takes.result e.edge_takes.ensures v.before.if-edge_takes.false v.edge-v.result v.edge-v.ensures x.before.edge_place-second.ensures x.edge_takes-2.result x.edge_takes-2.ensures c.if-edge_takes-2.false
 
 pub step_spec : {M : Type 1} → statement M
 step_spec =
