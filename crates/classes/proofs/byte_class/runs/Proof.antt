@@ -1,7 +1,6 @@
 -- The maximal ranges, in one pass. The invariant is `Pass`: ranges that end before `start` are stored, and the bytes from `start` up to b are in
 -- the class. The measure is what is left of the 256 flags. Assumes nothing.
 use borrow.Author.Rules.{rules}
-use borrow.Author.Tests.{not-true, not-false}
 use mathlib.Core.Logic.{⊎_elim}
 use mathlib.Core.Path.{◌≡◌}
 use Prim.Native.Nat.{◌-◌, ◌≤◌, ◌<◌}
