@@ -1,7 +1,7 @@
 /* Reads texts as angles in hundredths of a degree, and writes each angle back.
  *
- *   rt staticlib capi
- *   gcc -Wall -Wextra -O2 -Iinclude examples/angles.c target/staticlib/libcapi.a -o angles
+ *   (cd crates/capi && rt lib)
+ *   gcc -Wall -Wextra -O2 -Iinclude examples/angles.c crates/capi/out/libcapi.a -o angles
  *   ./angles +1.5 -0.5 001.05 -0.00 --- 180.01
  *
  * prints

@@ -1,7 +1,7 @@
 /* Builds the graph of a table's image and prints it: its text, then one line a conflict; or the number of the refusal.
  *
- *   rt staticlib capi
- *   gcc -Wall -Wextra -O2 -Iinclude examples/build.c target/staticlib/libcapi.a -o build
+ *   (cd crates/capi && rt lib)
+ *   gcc -Wall -Wextra -O2 -Iinclude examples/build.c crates/capi/out/libcapi.a -o build
  *   ./build IMAGE
  *
  * The image of case K1: four states, start 1, one leaf of priority 2; state 1 goes by `a` to 2, state 2 by every byte and end to 3, which has leaf 0.

@@ -1,7 +1,7 @@
 /* Adds classes to a mask store, prints each one's number, cost and exceptions, and renders the store's tables.
  *
- *   rt staticlib capi
- *   gcc -Wall -Wextra -O2 -Iinclude examples/classes.c target/staticlib/libcapi.a -o classes
+ *   (cd crates/capi && rt lib)
+ *   gcc -Wall -Wextra -O2 -Iinclude examples/classes.c crates/capi/out/libcapi.a -o classes
  *   ./classes
  *
  * prints

@@ -2,8 +2,8 @@
  * how many of them are led on by a table, and how many masks the plan needs; both readings of the text from its beginning; the tokens and gaps of the
  * scan by the plan, leaf, start and end or start and end; and whether the scan by the walk has the same.
  *
- *   rt staticlib capi
- *   gcc -Wall -Wextra -O2 -Iinclude examples/plan.c target/staticlib/libcapi.a -o plan
+ *   (cd crates/capi && rt lib)
+ *   gcc -Wall -Wextra -O2 -Iinclude examples/plan.c crates/capi/out/libcapi.a -o plan
  *   ./plan examples/json.image '[1.5, true] x'
  *
  * prints

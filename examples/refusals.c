@@ -1,7 +1,7 @@
 /* Gets every refusal with the smallest input that gives it, and prints its number and its name.
  *
- *   rt staticlib capi
- *   gcc -Wall -Wextra -O2 -Iinclude examples/refusals.c target/staticlib/libcapi.a -o refusals
+ *   (cd crates/capi && rt lib)
+ *   gcc -Wall -Wextra -O2 -Iinclude examples/refusals.c crates/capi/out/libcapi.a -o refusals
  *   ./refusals
  *
  * prints

@@ -1,8 +1,8 @@
 /* Scans a text by a graph: reads the graph's words, low byte first, from one file and the text from another, and prints one line an entry: leaf, start and
  * end of a token, start and end of a gap.
  *
- *   rt staticlib capi
- *   gcc -Wall -Wextra -O2 -Iinclude examples/scan.c target/staticlib/libcapi.a -o scan
+ *   (cd crates/capi && rt lib)
+ *   gcc -Wall -Wextra -O2 -Iinclude examples/scan.c crates/capi/out/libcapi.a -o scan
  *   ./scan GRAPH TEXT
  *
  * The graph of case K1: two states, the root goes by `a` to the other, which has leaf 0 as early. These lines write it and the text of K3:

@@ -1,8 +1,8 @@
 /* Measures how much stack each call takes: it is made on a stack of its own, filled with one byte before, and what it has written is what it took.
  * The arrays of a call have fixed sizes, so the table does not matter; a pattern tree does, and is the deepest that there is.
  *
- *   rt staticlib capi
- *   gcc -Wall -Wextra -O2 -Iinclude examples/stack.c target/staticlib/libcapi.a -o stack
+ *   (cd crates/capi && rt lib)
+ *   gcc -Wall -Wextra -O2 -Iinclude examples/stack.c crates/capi/out/libcapi.a -o stack
  *   ./stack examples/json.image
  *
  * prints a line a call, its bytes and its name, as

@@ -1,5 +1,5 @@
 #!/usr/bin/env bash
-# Builds target/bench/bench and runs it: our calls in target/staticlib/libcapi.a beside the original Rust and Rust loops with unchecked indexing.
+# Builds target/bench/bench and runs it: our calls in crates/capi/out/libcapi.a beside the original Rust and Rust loops with unchecked indexing.
 #     oracle/bench.sh [NAME..]          the ratios, of all tasks or of the named ones
 #     oracle/bench.sh count [NAME..]    how many instructions one run of each side takes, by valgrind
 # LOGOS_SRC names the original's sources (oracle/crates.sh).
@@ -8,8 +8,8 @@ cd "$(dirname "$0")/.."
 OUT=$PWD/target/bench
 FLAGS=(-C opt-level=3)
 . oracle/crates.sh
-rt staticlib capi >"$OUT/staticlib.log" 2>&1
-FLAGS+=(-C link-arg="$PWD/target/staticlib/libcapi.a")
+(cd crates/capi && rt lib) >"$OUT/lib.log" 2>&1
+FLAGS+=(-C link-arg="$PWD/crates/capi/out/libcapi.a")
 crate bin bench 2021 "-D warnings" oracle/src/bench.rs logos_codegen regex_automata regex_syntax proc_macro2
 
 # instructions SIDE TASK FUNCTION: those of the function and all that it calls

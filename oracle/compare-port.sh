@@ -10,9 +10,9 @@ SEED=${1:-1} COUNT=${2:-2000}
 OUT=target/oracle
 CC=(cc -std=c11 -O2 -Wall -Wextra -Werror -Iinclude)
 oracle/build.sh
-rt staticlib capi >/dev/null
-"${CC[@]}" -o $OUT/port oracle/port/{port,builds,readings,classes,plans,angles,lent,lines}.c target/staticlib/libcapi.a
-"${CC[@]}" -o $OUT/build examples/build.c target/staticlib/libcapi.a
+(cd crates/capi && rt lib) >/dev/null
+"${CC[@]}" -o $OUT/port oracle/port/{port,builds,readings,classes,plans,angles,lent,lines}.c crates/capi/out/libcapi.a
+"${CC[@]}" -o $OUT/build examples/build.c crates/capi/out/libcapi.a
 for name in builds display readings classes priorities plans angles; do
     oracle/compare.py $name "$SEED" "$COUNT" $OUT/port
 done

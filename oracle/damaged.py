@@ -21,7 +21,7 @@ import sys
 import time
 
 ROOT = os.path.dirname(os.path.dirname(os.path.abspath(__file__)))
-PRINTER = os.path.join(ROOT, "target", "bin", "printer")
+PRINTER = os.path.join(ROOT, "crates", "printer", "out", "printer")
 ORACLE = os.path.join(ROOT, "target", "oracle", "oracle")
 LEFT = os.path.join(ROOT, "target", "damaged.image")
 LIMIT = 10

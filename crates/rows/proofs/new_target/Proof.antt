@@ -6,12 +6,12 @@ use borrow.Author.Rules.{rules}
 use Rattle.rows.proofs.new_target.Statement.{statement}
 use Rattle.rows.proofs.new_target.Tie as tie
 
-returns : tie.Need-returns-then-u-eq0
-returns c = sym (target-zero c.before.args.numbers.now c.before.args.u (omega arith))
-
 returns-2 : tie.Need-returns
 returns-2 c =
-    sym (target-other c.before.before.before.args.numbers.now c.before.before.before.args.u c.before.before.if-u-eq0.false)
+    sym (target-other c.before.before.before.args.numbers.now c.before.before.before.args.u (omega arith))
 
 pub new_target_spec : {M : Type 1} → statement M
-new_target_spec = tie.close (tie.spec returns (λ c. search rules) (λ c. search rules) returns-2)
+new_target_spec =
+    tie.close
+    (tie.spec (λ c. sym (target-zero c.before.args.numbers.now c.before.args.u (omega arith))) (λ c. search rules) (λ c. search rules)
+    returns-2)

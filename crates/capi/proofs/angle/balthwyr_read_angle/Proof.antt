@@ -11,5 +11,5 @@ returns c =
     let stored = c.store.ensures in
     (stored.0, stored.1 ∙ ap kind_of read, stored.2 ∙ ap hundredths_of read)
 
-pub balthwyr-read-angle-spec : {M : Type 1} → statement M
-balthwyr-read-angle-spec = tie.close (tie.spec (λ c κs. search rules) (λ c κs. search rules) returns)
+pub balthwyr_read_angle_spec : {M : Type 1} → statement M
+balthwyr_read_angle_spec = tie.close (tie.spec (λ c κs. search rules) (λ c κs. search rules) returns)

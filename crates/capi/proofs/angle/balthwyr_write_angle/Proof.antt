@@ -12,9 +12,9 @@ returns c =
     let put = c.before.before in
     let made = put.before.before.before.before.before in
     let s = made.before.before in
-    let written = made.write.ensures ∙ ap written_of (to_z-of_z w32 s.args.hundredths s.ranges.hundredths) in
-    let stored = put.put-counted.ensures in
+    let written = made.write-written.ensures ∙ ap written_of (to_z-of_z w32 s.args.hundredths s.ranges.hundredths) in
+    let stored = put.put_counted.ensures in
     (rw (← written) stored.0, rw (← written) stored.1)
 
-pub balthwyr-write-angle-spec : {M : Type 1} → statement M
-balthwyr-write-angle-spec = tie.close (tie.spec (λ c κs. search rules) (λ c. search rules) (λ c κs. search rules) (λ c. search rules) returns)
+pub balthwyr_write_angle_spec : {M : Type 1} → statement M
+balthwyr_write_angle_spec = tie.close (tie.spec (λ c κs. search rules) (λ c. search rules) (λ c κs. search rules) (λ c. search rules) returns)

@@ -7,9 +7,9 @@ use Rattle.capi.proofs.build.balthwyr_build_image.Tie as tie
 
 returns : tie.Need-returns
 returns c =
-    let outcome = c.before.before.before.before.before.before.before.before.before.from-image.ensures in
+    let outcome = c.before.before.before.before.before.before.before.before.before.from_image-answer.ensures in
     let answered = ap (λ (o : Outcome). built_report o.answer) outcome in
     (sym answered ∙ c.store.ensures, (ap (λ (o : Outcome). o.graph) outcome, ap (λ (o : Outcome). o.errors) outcome))
 
-pub balthwyr-build-image-spec : {M : Type 1} → statement M
-balthwyr-build-image-spec = tie.close (tie.spec (λ c κs. search rules) (λ c κs. search rules) (λ c. search rules) (λ c. search rules) returns)
+pub balthwyr_build_image_spec : {M : Type 1} → statement M
+balthwyr_build_image_spec = tie.close (tie.spec (λ c κs. search rules) (λ c κs. search rules) (λ c. search rules) (λ c. search rules) returns)

@@ -5,11 +5,11 @@ use Rattle.graph.specs.New.{built_report}
 use Rattle.capi.proofs.build.store.Statement.{statement}
 use Rattle.capi.proofs.build.store.Tie as tie
 
-returns : tie.Need-returns
-returns c = ap built_report c.before.answer.given.1
+returns : tie.Need-returns-in-Built
+returns c = ap built_report c.in-Built.is
 
-returns-2 : tie.Need-returns-2
-returns-2 c = ap built_report c.before.answer2.given.1
+returns-2 : tie.Need-returns-in-Refused
+returns-2 c = ap built_report c.in-Refused.is
 
 pub store_spec : {M : Type 1} → statement M
 store_spec = tie.close (tie.spec (λ c. search rules) (λ c. search rules) returns returns-2)

@@ -6,7 +6,7 @@ use Rattle.capi.proofs.byte_class.balthwyr_cost.Statement.{statement}
 use Rattle.capi.proofs.byte_class.balthwyr_cost.Tie as tie
 
 returns : tie.Need-returns
-returns c = (refl, c.cost.ensures ∙ ap cost c.before.before.flags_of.ensures)
+returns c = (refl, c.cost.ensures ∙ ap cost c.before.before.flags_of-class.ensures)
 
-pub balthwyr-cost-spec : {M : Type 1} → statement M
-balthwyr-cost-spec = tie.close (tie.spec (λ c κs. search rules) (λ c κs. search rules) returns)
+pub balthwyr_cost_spec : {M : Type 1} → statement M
+balthwyr_cost_spec = tie.close (tie.spec (λ c κs. search rules) (λ c κs. search rules) returns)

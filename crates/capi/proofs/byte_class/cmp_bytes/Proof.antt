@@ -13,16 +13,16 @@ returns c =
     let one = c.before.before.before.before.before in
     let made = one.before.before.before in
     let cmp = made.before.before.before.before.before.before.args.cmp in
-    let bounds = made.before.joined.result in
-    let exceptions = made.joined2.result in
+    let bounds = made.before.joined-bounds.result in
+    let exceptions = made.joined-exceptions.result in
     let size : length bounds ≡ 256 = search rules in
     let rest : 256 + length exceptions ≡ 512 = search rules in
-    two-laid (replicate 512 0) bounds exceptions 256 size (rest ∙ sym (length-replicate {A = ℕ} 512 0)) one.write.ensures c.before.write2.ensures
-    ∙ ap (λ (l : List ℕ). l ++ exceptions) made.before.joined.ensures
-    ∙ ap (λ (l : List ℕ). (cmp.first ++ cmp.last) ++ l) made.joined2.ensures
+    two-laid (replicate 512 0) bounds exceptions 256 size (rest ∙ sym (length-replicate {A = ℕ} 512 0)) one.write.ensures c.before.write-2.ensures
+    ∙ ap (λ (l : List ℕ). l ++ exceptions) made.before.joined-bounds.ensures
+    ∙ ap (λ (l : List ℕ). (cmp.first ++ cmp.last) ++ l) made.joined-exceptions.ensures
 
-pub cmp-bytes-spec : {M : Type 1} → statement M
-cmp-bytes-spec =
+pub cmp_bytes_spec : {M : Type 1} → statement M
+cmp_bytes_spec =
     tie.close
     (tie.spec (λ c κs. search rules) (λ c κs. search rules) (λ c. search rules) (λ c. search rules) (λ c κs. search rules)
     (λ c. search rules) (λ c. search rules) (λ c κs. search rules) returns)

@@ -11,12 +11,12 @@ returns : tie.Need-returns
 returns c =
     let one = c.before.before.before.before.before in
     let st = one.before.before.before in
-    let size : length st.args.t1 ≡ 128 = search rules in
-    let rest : 128 + length st.args.t2 ≡ 256 = search rules in
-    two-laid (replicate 256 0) st.args.t1 st.args.t2 128 size (rest ∙ sym (length-replicate {A = ℕ} 256 0)) one.write.ensures c.before.write2.ensures
+    let size : length st.args.a ≡ 128 = search rules in
+    let rest : 128 + length st.args.b ≡ 256 = search rules in
+    two-laid (replicate 256 0) st.args.a st.args.b 128 size (rest ∙ sym (length-replicate {A = ℕ} 256 0)) one.write.ensures c.before.write-2.ensures
 
-pub joined-spec : {M : Type 1} → statement M
-joined-spec =
+pub joined_spec : {M : Type 1} → statement M
+joined_spec =
     tie.close
     (tie.spec (λ c. search rules) (λ c. search rules) (λ c κs. search rules) (λ c. search rules) (λ c. search rules) (λ c κs. search rules)
     returns)

@@ -10,26 +10,26 @@ use Rattle.capi.proofs.Blocks.{Made, made_none, made_more, made_all}
 use Rattle.capi.proofs.lent.flags_of.Statement.{statement}
 use Rattle.capi.proofs.lent.flags_of.Tie as tie
 
-abbrev invariant-loop : tie.invariant-loop
+abbrev invariant-loop : tie.invariant-loop-b
 invariant-loop flags class₀ b₀ class b = Made false (is_flag flags) 256 class b
 
-abbrev decreases-loop : tie.decreases-loop
+abbrev decreases-loop : tie.decreases-loop-b
 decreases-loop flags class₀ b₀ class b = 256 - b
 
-loop-holds : tie.Need-loop-init invariant-loop decreases-loop
+loop-holds : tie.Need-loop-b-init invariant-loop decreases-loop
 loop-holds c = made_none false _ 256 (length-replicate {A = Bool} 256 false)
 
-loop-again : tie.Need-loop-preserved invariant-loop decreases-loop
+loop-again : tie.Need-loop-b-preserved invariant-loop decreases-loop
 loop-again c =
     let at = c.before.before in
-    made_more false _ 256 c.is-flag.result at.loop.invariant (omega arith) c.is-flag.ensures
+    made_more false _ 256 c.is_flag.result at.loop-b.invariant (omega arith) c.is_flag.ensures
 
 returns : tie.Need-returns invariant-loop decreases-loop
 unfolding flags_of
-returns c = made_all false _ 256 c.before.loop.invariant (omega arith)
+returns c = made_all false _ 256 c.before.loop-b.invariant (omega arith)
 
-pub flags-of-spec : {M : Type 1} → statement M
-flags-of-spec =
+pub flags_of_spec : {M : Type 1} → statement M
+flags_of_spec =
     tie.close
     (tie.spec invariant-loop decreases-loop loop-holds (λ c κs. search rules) (λ c. search rules) (λ c. search rules) (λ c. search rules) loop-again
     returns)

@@ -6,16 +6,16 @@ use Rattle.capi.proofs.Blocks.{put-parts, put-short, put-taken}
 use Rattle.capi.proofs.lent.put.Statement.{statement}
 use Rattle.capi.proofs.lent.put.Tie as tie
 
-returns : tie.Need-returns
+returns : tie.Need-returns-then-block-bytes
 returns c =
     let st = c.before.before.before in
-    put-parts (put-short st.args.bytes.now st.args.block.now c.if1.true)
+    put-parts (put-short st.args.bytes.now st.args.block.now c.if-block-bytes.true)
 
-returns-2 : tie.Need-returns-2
+returns-2 : tie.Need-returns
 returns-2 c =
     let made = c.before.before in
     let st = made.before.before.before.before.before in
-    let room = made.before.before.if1.false in
+    let room = made.before.before.if-block-bytes.false in
     let e = put-parts (put-taken st.args.bytes.now st.args.block.now room) in
     (e.0, made.write.ensures ∙ sets-front st.args.block.now st.args.bytes.now room ∙ e.1)
 

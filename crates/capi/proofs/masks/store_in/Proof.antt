@@ -7,13 +7,13 @@ use Rattle.capi.specs.Stores.{store_in}
 use Rattle.capi.proofs.masks.store_in.Statement.{statement}
 use Rattle.capi.proofs.masks.store_in.Tie as tie
 
-returns : tie.Need-returns
+returns : tie.Need-returns-then-tables-ne-SIZE
 unfolding store_in
-returns c = rw (ne_eqb (length c.before.before.args.tables.now) store_size c.if1.true)
+returns c = rw (ne_eqb (length c.before.before.args.tables.now) store_size c.if-tables-ne-SIZE.true)
 
-returns-2 : tie.Need-returns-2
+returns-2 : tie.Need-returns
 unfolding store_in
-returns-2 c = rw (eq-eqb (length c.before.before.before.args.tables.now) store_size c.before.if1.false) c.store_of.ensures
+returns-2 c = rw (eq-eqb (length c.before.before.before.args.tables.now) store_size c.before.if-tables-ne-SIZE.false) c.store_of.ensures
 
-pub store-in-spec : {M : Type 1} → statement M
-store-in-spec = tie.close (tie.spec returns (λ c κs. search rules) returns-2)
+pub store_in_spec : {M : Type 1} → statement M
+store_in_spec = tie.close (tie.spec returns (λ c κs. search rules) returns-2)

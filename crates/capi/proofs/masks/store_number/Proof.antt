@@ -5,8 +5,8 @@ use Rattle.mask_store.specs.Masks.{add_report}
 use Rattle.capi.proofs.masks.store_number.Statement.{statement}
 use Rattle.capi.proofs.masks.store_number.Tie as tie
 
-returns-2 : tie.Need-returns-2
-returns-2 c = ap add_report c.before.answer2.given.1
+returns-2 : tie.Need-returns-in-Refused
+returns-2 c = ap add_report c.in-Refused.is
 
-pub store-number-spec : {M : Type 1} → statement M
-store-number-spec = tie.close (tie.spec (λ c. search rules) (λ c. search rules) (λ c. search rules) returns-2)
+pub store_number_spec : {M : Type 1} → statement M
+store_number_spec = tie.close (tie.spec (λ c. search rules) (λ c. search rules) (λ c. search rules) returns-2)

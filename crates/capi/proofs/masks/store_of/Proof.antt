@@ -16,5 +16,5 @@ returns c =
     ap (λ (l : List ℕ). store_of l st.args.count)
     (c.before.write.ensures ∙ sets-whole (replicate store_size 0) st.args.tables.now (st.requires ∙ sym (length-replicate {A = ℕ} store_size 0)))
 
-pub store-of-spec : {M : Type 1} → statement M
-store-of-spec = tie.close (tie.spec (λ c. search rules) (λ c κs. search rules) returns)
+pub store_of_spec : {M : Type 1} → statement M
+store_of_spec = tie.close (tie.spec (λ c. search rules) (λ c κs. search rules) returns)

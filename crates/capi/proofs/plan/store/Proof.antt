@@ -5,8 +5,8 @@ use Rattle.planning.specs.Plan.{plan_report}
 use Rattle.capi.proofs.plan.store.Statement.{statement}
 use Rattle.capi.proofs.plan.store.Tie as tie
 
-returns-2 : tie.Need-returns-2
-returns-2 c = ap plan_report c.before.answer2.given.1
+returns-2 : tie.Need-returns-in-Refused
+returns-2 c = ap plan_report c.in-Refused.is
 
 pub store_spec : {M : Type 1} → statement M
 store_spec = tie.close (tie.spec (λ c. search rules) (λ c. search rules) (λ c. search rules) returns-2)

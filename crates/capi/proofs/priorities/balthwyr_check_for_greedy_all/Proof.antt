@@ -6,7 +6,7 @@ use Rattle.capi.proofs.priorities.balthwyr_check_for_greedy_all.Statement.{state
 use Rattle.capi.proofs.priorities.balthwyr_check_for_greedy_all.Tie as tie
 
 returns : tie.Need-returns
-returns c = sym (ap greedy_report c.before.before.check-for-greedy-all.ensures) ∙ c.store-greedy.ensures
+returns c = sym (ap greedy_report c.before.before.check_for_greedy_all.ensures) ∙ c.store_greedy.ensures
 
-pub balthwyr-check-for-greedy-all-spec : {M : Type 1} → statement M
-balthwyr-check-for-greedy-all-spec = tie.close (tie.spec (λ c κs. search rules) (λ c κs. search rules) returns)
+pub balthwyr_check_for_greedy_all_spec : {M : Type 1} → statement M
+balthwyr_check_for_greedy_all_spec = tie.close (tie.spec (λ c κs. search rules) (λ c κs. search rules) returns)

@@ -6,7 +6,7 @@ use Rattle.capi.proofs.priorities.balthwyr_priority.Statement.{statement}
 use Rattle.capi.proofs.priorities.balthwyr_priority.Tie as tie
 
 returns : tie.Need-returns
-returns c = sym (ap priority_report c.before.before.priority.ensures) ∙ c.store-priority.ensures
+returns c = sym (ap priority_report c.before.before.priority.ensures) ∙ c.store_priority.ensures
 
-pub balthwyr-priority-spec : {M : Type 1} → statement M
-balthwyr-priority-spec = tie.close (tie.spec (λ c κs. search rules) (λ c κs. search rules) returns)
+pub balthwyr_priority_spec : {M : Type 1} → statement M
+balthwyr_priority_spec = tie.close (tie.spec (λ c κs. search rules) (λ c κs. search rules) returns)

@@ -12,14 +12,14 @@ use Rattle.capi.proofs.priorities.store_greedy.Tie as tie
 abbrev told : Bool → Report
 told found = reporting (cond found 1 0 ∷ [])
 
-returns : tie.Need-returns
-returns c = ap greedy_report c.before.before.answer.given.1 ∙ ap told c.if1.true
+returns : tie.Need-returns-then-yes
+returns c = ap greedy_report c.before.in-Found.is ∙ ap told c.if-yes.true
 
-returns-2 : tie.Need-returns-2
-returns-2 c = ap greedy_report c.before.before.answer.given.1 ∙ ap told c.if1.false
+returns-2 : tie.Need-returns-else-yes
+returns-2 c = ap greedy_report c.before.in-Found.is ∙ ap told c.if-yes.false
 
-returns-3 : tie.Need-returns-3
-returns-3 c = ap greedy_report c.before.answer2.given.1
+returns-3 : tie.Need-returns-in-Refused
+returns-3 c = ap greedy_report c.in-Refused.is
 
-pub store-greedy-spec : {M : Type 1} → statement M
-store-greedy-spec = tie.close (tie.spec (λ c. search rules) (λ c. search rules) returns returns-2 returns-3)
+pub store_greedy_spec : {M : Type 1} → statement M
+store_greedy_spec = tie.close (tie.spec (λ c. search rules) (λ c. search rules) returns returns-2 returns-3)

@@ -5,8 +5,8 @@ use Rattle.pattern.specs.Priority.{priority_report}
 use Rattle.capi.proofs.priorities.store_priority.Statement.{statement}
 use Rattle.capi.proofs.priorities.store_priority.Tie as tie
 
-returns-2 : tie.Need-returns-2
-returns-2 c = ap priority_report c.before.answer2.given.1
+returns-2 : tie.Need-returns-in-Refused
+returns-2 c = ap priority_report c.in-Refused.is
 
-pub store-priority-spec : {M : Type 1} → statement M
-store-priority-spec = tie.close (tie.spec (λ c. search rules) (λ c. search rules) (λ c. search rules) (λ c. search rules) returns-2)
+pub store_priority_spec : {M : Type 1} → statement M
+store_priority_spec = tie.close (tie.spec (λ c. search rules) (λ c. search rules) (λ c. search rules) (λ c. search rules) returns-2)

@@ -6,7 +6,7 @@ use Rattle.capi.proofs.read.balthwyr_read_graph.Statement.{statement}
 use Rattle.capi.proofs.read.balthwyr_read_graph.Tie as tie
 
 returns : tie.Need-returns
-returns c = sym (ap read_report c.before.before.before.before.read-graph.ensures) ∙ c.store.ensures
+returns c = sym (ap read_report c.before.before.before.before.read_graph.ensures) ∙ c.store.ensures
 
-pub balthwyr-read-graph-spec : {M : Type 1} → statement M
-balthwyr-read-graph-spec = tie.close (tie.spec (λ c κs. search rules) (λ c κs. search rules) returns)
+pub balthwyr_read_graph_spec : {M : Type 1} → statement M
+balthwyr_read_graph_spec = tie.close (tie.spec (λ c κs. search rules) (λ c κs. search rules) returns)

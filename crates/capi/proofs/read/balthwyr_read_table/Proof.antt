@@ -8,5 +8,5 @@ use Rattle.capi.proofs.read.balthwyr_read_table.Tie as tie
 returns : tie.Need-returns
 returns c = sym (ap read_report c.before.before.before.before.read_table.ensures) ∙ c.store.ensures
 
-pub balthwyr-read-table-spec : {M : Type 1} → statement M
-balthwyr-read-table-spec = tie.close (tie.spec (λ c κs. search rules) (λ c κs. search rules) returns)
+pub balthwyr_read_table_spec : {M : Type 1} → statement M
+balthwyr_read_table_spec = tie.close (tie.spec (λ c κs. search rules) (λ c κs. search rules) returns)

@@ -10,9 +10,9 @@ returns c =
     let a = c.before.before.before.before.before.before.before.before.before.before.args in
     let e = run_in_lem a.graph.now a.plan.now a.tables.now a.count a.text.now in
     let read = ran.run.ensures in
-    let held = ran.before.store_in.ensures in
+    let held = ran.before.store_in-held.ensures in
     let stored = c.store.ensures in
     rw (e, ← held, ← read) stored
 
-pub balthwyr-run-spec : {M : Type 1} → statement M
-balthwyr-run-spec = tie.close (tie.spec (λ c κs. search rules) (λ c κs. search rules) (λ c κs. search rules) returns)
+pub balthwyr_run_spec : {M : Type 1} → statement M
+balthwyr_run_spec = tie.close (tie.spec (λ c κs. search rules) (λ c κs. search rules) (λ c κs. search rules) returns)

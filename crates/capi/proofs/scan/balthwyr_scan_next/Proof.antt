@@ -6,11 +6,11 @@ use Rattle.capi.proofs.scan.balthwyr_scan_next.Tie as tie
 returns : tie.Need-returns
 returns c =
     let numbered = c.before.before.before.before.before in
-    let from = numbered.before.before.scan-of.ensures in
-    let next = numbered.before.next.ensures in
-    let number = numbered.number_of_lem.ensures in
+    let from = numbered.before.before.before.scan_of.ensures in
+    let next = numbered.before.before.next-scanned.ensures in
+    let number = numbered.number_of.ensures in
     let stored = c.store.ensures in
     (rw (← from, ← next) stored, rw (← from, ← next) number)
 
-pub balthwyr-scan-next-spec : {M : Type 1} → statement M
-balthwyr-scan-next-spec = tie.close (tie.spec (λ c κs. search rules) (λ c κs. search rules) (λ c κs. search rules) (λ c κs. search rules) returns)
+pub balthwyr_scan_next_spec : {M : Type 1} → statement M
+balthwyr_scan_next_spec = tie.close (tie.spec (λ c κs. search rules) (λ c κs. search rules) (λ c κs. search rules) (λ c κs. search rules) returns)

@@ -4,13 +4,13 @@ use Rattle.capi.specs.Scans.{scan_of, ended}
 use Rattle.capi.proofs.scan.scan_of.Statement.{statement}
 use Rattle.capi.proofs.scan.scan_of.Tie as tie
 
-returns : tie.Need-returns
+returns : tie.Need-returns-then-number-eq-ENDED
 unfolding scan_of
-returns c = rw (eq-eqb c.before.args.number ended c.if1.true)
+returns c = rw (eq-eqb c.before.args.number ended c.if-number-eq-ENDED.true)
 
-returns-2 : tie.Need-returns-2
+returns-2 : tie.Need-returns
 unfolding scan_of
-returns-2 c = rw (ne_eqb c.before.args.number ended c.if1.false)
+returns-2 c = rw (ne_eqb c.before.args.number ended c.if-number-eq-ENDED.false)
 
-pub scan-of-spec : {M : Type 1} → statement M
-scan-of-spec = tie.close (tie.spec returns returns-2)
+pub scan_of_spec : {M : Type 1} → statement M
+scan_of_spec = tie.close (tie.spec returns returns-2)

@@ -5,14 +5,14 @@ use Rattle.scans.specs.Scan.{scan_report}
 use Rattle.capi.proofs.scan.store.Statement.{statement}
 use Rattle.capi.proofs.scan.store.Tie as tie
 
-returns : tie.Need-returns
-returns c = ap scan_report c.before.answer.given.1
+returns : tie.Need-returns-in-Token
+returns c = ap scan_report c.in-Token.is
 
-returns-2 : tie.Need-returns-2
-returns-2 c = ap scan_report c.before.answer2.given.1
+returns-2 : tie.Need-returns-in-Gap
+returns-2 c = ap scan_report c.in-Gap.is
 
-returns-4 : tie.Need-returns-4
-returns-4 c = ap scan_report c.before.answer3.given.1
+returns-4 : tie.Need-returns-in-Refused
+returns-4 c = ap scan_report c.in-Refused.is
 
 pub store_spec : {M : Type 1} → statement M
 store_spec =

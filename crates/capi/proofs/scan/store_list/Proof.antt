@@ -5,8 +5,8 @@ use Rattle.scans.specs.List.{list_report}
 use Rattle.capi.proofs.scan.store_list.Statement.{statement}
 use Rattle.capi.proofs.scan.store_list.Tie as tie
 
-returns-2 : tie.Need-returns-2
-returns-2 c = ap list_report c.before.answer2.given.1
+returns-2 : tie.Need-returns-in-Refused
+returns-2 c = ap list_report c.in-Refused.is
 
-pub store-list-spec : {M : Type 1} → statement M
-store-list-spec = tie.close (tie.spec (λ c. search rules) (λ c. search rules) (λ c. search rules) returns-2)
+pub store_list_spec : {M : Type 1} → statement M
+store_list_spec = tie.close (tie.spec (λ c. search rules) (λ c. search rules) (λ c. search rules) returns-2)

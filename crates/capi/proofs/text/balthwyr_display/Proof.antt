@@ -7,8 +7,8 @@ use Rattle.capi.proofs.text.balthwyr_display.Tie as tie
 
 returns : tie.Need-returns
 returns c =
-    let shown = c.before.before.before.before.display.ensures in
+    let shown = c.before.before.before.before.display-answer.ensures in
     (sym (ap shown_report shown.0) ∙ c.store.ensures, shown.1)
 
-pub balthwyr-display-spec : {M : Type 1} → statement M
-balthwyr-display-spec = tie.close (tie.spec (λ c κs. search rules) (λ c κs. search rules) (λ c. search rules) returns)
+pub balthwyr_display_spec : {M : Type 1} → statement M
+balthwyr_display_spec = tie.close (tie.spec (λ c κs. search rules) (λ c κs. search rules) (λ c. search rules) returns)

@@ -7,8 +7,8 @@ use Rattle.capi.proofs.text.balthwyr_error_line.Tie as tie
 
 returns : tie.Need-returns
 returns c =
-    let shown = c.before.before.before.before.error-line.ensures in
+    let shown = c.before.before.before.before.error_line-answer.ensures in
     (sym (ap shown_report shown.0) ∙ c.store.ensures, shown.1)
 
-pub balthwyr-error-line-spec : {M : Type 1} → statement M
-balthwyr-error-line-spec = tie.close (tie.spec (λ c κs. search rules) (λ c κs. search rules) (λ c. search rules) returns)
+pub balthwyr_error_line_spec : {M : Type 1} → statement M
+balthwyr_error_line_spec = tie.close (tie.spec (λ c κs. search rules) (λ c κs. search rules) (λ c. search rules) returns)

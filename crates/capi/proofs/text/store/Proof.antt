@@ -5,8 +5,8 @@ use Rattle.display.specs.Answers.{shown_report}
 use Rattle.capi.proofs.text.store.Statement.{statement}
 use Rattle.capi.proofs.text.store.Tie as tie
 
-returns-2 : tie.Need-returns-2
-returns-2 c = ap shown_report c.before.answer2.given.1
+returns-2 : tie.Need-returns-in-Refused
+returns-2 c = ap shown_report c.in-Refused.is
 
 pub store_spec : {M : Type 1} → statement M
 store_spec = tie.close (tie.spec (λ c. search rules) (λ c. search rules) (λ c. search rules) returns-2)

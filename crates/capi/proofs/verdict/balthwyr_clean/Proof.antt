@@ -8,5 +8,5 @@ use Rattle.capi.proofs.verdict.balthwyr_clean.Tie as tie
 returns : tie.Need-returns
 returns c = sym (ap clean_report c.before.before.before.clean.ensures) ∙ c.store.ensures
 
-pub balthwyr-clean-spec : {M : Type 1} → statement M
-balthwyr-clean-spec = tie.close (tie.spec (λ c κs. search rules) (λ c κs. search rules) returns)
+pub balthwyr_clean_spec : {M : Type 1} → statement M
+balthwyr_clean_spec = tie.close (tie.spec (λ c κs. search rules) (λ c κs. search rules) returns)

@@ -5,8 +5,8 @@ use Rattle.clean.specs.Answers.{clean_report}
 use Rattle.capi.proofs.verdict.store.Statement.{statement}
 use Rattle.capi.proofs.verdict.store.Tie as tie
 
-returns-3 : tie.Need-returns-3
-returns-3 c = ap clean_report c.before.answer2.given.1
+returns-3 : tie.Need-returns-in-Refused
+returns-3 c = ap clean_report c.in-Refused.is
 
 pub store_spec : {M : Type 1} → statement M
 store_spec =

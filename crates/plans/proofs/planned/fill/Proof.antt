@@ -11,67 +11,67 @@ use Rattle.scans.proofs.Filling.{Filling, filling-none, filling-more, left-full,
 use Rattle.plans.proofs.planned.fill.Statement.{statement}
 use Rattle.plans.proofs.planned.fill.Tie as tie
 
-abbrev invariant-loop : tie.invariant-loop
+abbrev invariant-loop : tie.invariant-loop-n
 invariant-loop graph plan tables ends tests text from out₀ room n₀ at₀ out n at = (length out ≡ length out₀) × Filling (graph_from graph) text from room out₀ out n at
 
-abbrev decreases-loop : tie.decreases-loop
+abbrev decreases-loop : tie.decreases-loop-n
 decreases-loop graph plan tables ends tests text from out₀ room n₀ at₀ out n at = room - n
 
-loop-holds : tie.Need-loop-init invariant-loop decreases-loop
+loop-holds : tie.Need-loop-n-init invariant-loop decreases-loop
 loop-holds c =
     let st = c.before.before.before.before.before.before in
     (refl, filling-none (graph_from st.args.graph.now) st.args.text.now st.args.from _ st.args.out.now st.requires.1.0)
 
-same_length : tie.Need-same-length invariant-loop decreases-loop
-same_length c = c.before.before.loop.invariant.0
+same_length : tie.Need-shape_of-out-then-at-text invariant-loop decreases-loop
+same_length c = c.before.before.loop-n.invariant.0
 
-returns : tie.Need-returns invariant-loop decreases-loop
+returns : tie.Need-returns-then-at-text invariant-loop decreases-loop
 unfolding list_from
 returns c =
     let at = c.before.before in
     let st = at.before.before.before.before.before.before.before in
-    let l = at.loop in
+    let l = at.loop-n in
     let g = graph_from st.args.graph.now in
-    let left = left-ends g st.args.text.now st.args.from _ st.args.out.now l.out l.n l.at l.invariant.1 c.before.loop-test.true c.if1.true in (
+    let left = left-ends g st.args.text.now st.args.from _ st.args.out.now l.out l.n l.at l.invariant.1 c.before.loop-n-test.true c.if-at-text.true in (
       done-listed g st.args.text.now st.args.from _ st.args.out.now l.out l.n l.at l.invariant.1 _ left,
       done-buffer g st.args.text.now st.args.from _ st.args.out.now l.out l.n l.at l.invariant.1 _ left,
     )
 
-planned-entry-requires : tie.Need-planned-entry-requires invariant-loop decreases-loop
+planned-entry-requires : tie.Need-planned_entry-e-requires invariant-loop decreases-loop
 planned-entry-requires c κs =
     let at = c.before.before in
     let st = at.before.before.before.before.before.before.before in
-    let l = at.loop in
+    let l = at.loop-n in
     let within = l.invariant.1.within in
-    let inside : l.at < length st.args.text.now = omega (arith, c.if1.false) in
+    let inside : l.at < length st.args.text.now = omega (arith, c.if-at-text.false) in
     (st.requires.0, (inside, st.requires.1.1))
 
-loop-again : tie.Need-loop-preserved invariant-loop decreases-loop
+loop-again : tie.Need-loop-n-preserved invariant-loop decreases-loop
 loop-again c =
     let put = c.before.before in
     let read = put.before.before in
     let at = read.before.before.before in
     let st = at.before.before.before.before.before.before.before in
-    let l = at.loop in
-    let e = read.planned-entry.result in
-    let inside : l.at < length st.args.text.now = omega (arith, read.before.if1.false) in
+    let l = at.loop-n in
+    let e = read.planned_entry-e.result in
+    let inside : l.at < length st.args.text.now = omega (arith, read.before.if-at-text.false) in
     let more =
-    filling-more (graph_from st.args.graph.now) st.args.text.now st.args.from _ st.args.out.now l.out l.n l.at l.invariant.1 read.before.before.loop-test.true
-    inside (omega arith) e read.planned-entry.ensures
+    filling-more (graph_from st.args.graph.now) st.args.text.now st.args.from _ st.args.out.now l.out l.n l.at l.invariant.1 read.before.before.loop-n-test.true
+    inside (omega arith) e read.planned_entry-e.ensures
     in (
-      put.put-entry.auto.0 ∙ l.invariant.0,
-      subst (λ (x : List ℕ). Filling (graph_from st.args.graph.now) st.args.text.now st.args.from (length st.args.out.now / entry_size) st.args.out.now x (l.n + 1) e.end) (sym put.put-entry.ensures) more,
+      put.put_entry.auto.out ∙ l.invariant.0,
+      subst (λ (x : List ℕ). Filling (graph_from st.args.graph.now) st.args.text.now st.args.from (length st.args.out.now / entry_size) st.args.out.now x (l.n + 1) e.end) (sym put.put_entry.ensures) more,
     )
 
-same-length-2 : tie.Need-same-length-2 invariant-loop decreases-loop
-same-length-2 c = c.before.loop.invariant.0
+same-length-2 : tie.Need-shape_of-out invariant-loop decreases-loop
+same-length-2 c = c.before.loop-n.invariant.0
 
-returns-2 : tie.Need-returns-2 invariant-loop decreases-loop
+returns-2 : tie.Need-returns invariant-loop decreases-loop
 unfolding list_from
 returns-2 c =
     let at = c.before in
     let st = at.before.before.before.before.before.before.before in
-    let l = at.loop in
+    let l = at.loop-n in
     let g = graph_from st.args.graph.now in
     let left = left-full g st.args.text.now st.args.from _ st.args.out.now l.out l.n l.at l.invariant.1 (omega arith) in (
       done-listed g st.args.text.now st.args.from _ st.args.out.now l.out l.n l.at l.invariant.1 _ left,

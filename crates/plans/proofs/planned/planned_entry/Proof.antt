@@ -14,25 +14,25 @@ use Rattle.plans.proofs.planned.planned_entry.Tie as tie
 use Rattle.runner.proofs.run.run.Reads as run-reads
 
 -- what the run found is what the graph reads
-found : (c : tie.After-run) → let st = c.before.before.before.before.before.before.before in
-    recorded c.run.result.leaf c.run.result.end ≡ read_graph (graph_from st.args.graph.now) (drop st.args.at st.args.text.now)
+found : (c : tie.After-run-r) → let st = c.before.before.before.before.before.before.before in
+    recorded c.run-r.result.leaf c.run-r.result.end ≡ read_graph (graph_from st.args.graph.now) (drop st.args.at st.args.text.now)
 found c =
     let at = c.before.before in
     let st = at.before.before.before.before.before in
     run-reads (graph_from st.args.graph.now) st.args.plan.now st.args.tables.now st.args.text.now st.args.at
-    st.requires.1.1.1.0.1 (λ i. (at.shared-slice-known5.given i).fits) _ c.run.ensures
+    st.requires.1.1.1.0.1 (λ i. (at.shared_slice_known-5-1.given i).fits) _ c.run-r.ensures
 
-entry-by-requires : tie.Need-entry-by-requires
+entry-by-requires : tie.Need-entry_by-requires
 entry-by-requires c κs =
     let st = c.before.before.before.before.before.before.before in
-    let r = c.run.result in
+    let r = c.run-r.result in
     (st.requires.1.0, λ n. token-within _ st.args.text.now st.args.at r.leaf r.end (omega (arith, st.requires.1.0)) (found c) n)
 
 returns : tie.Need-returns
 returns c =
     let st = c.before.before.before.before.before.before.before.before in
-    c.entry-by.ensures ∙ ap (entry_of st.args.text.now st.args.at) (found c.before)
+    c.entry_by.ensures ∙ ap (entry_of st.args.text.now st.args.at) (found c.before)
 
-pub planned-entry-spec : {M : Type 1} → statement M
-planned-entry-spec =
+pub planned_entry_spec : {M : Type 1} → statement M
+planned_entry_spec =
     tie.close (tie.spec (λ c. search rules) (λ c. search rules) (λ c. search rules) (λ c κs. search rules) entry-by-requires returns)

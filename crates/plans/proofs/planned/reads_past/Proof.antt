@@ -5,8 +5,8 @@ use borrow.Author.Rules.{rules}
 use Rattle.plans.proofs.planned.reads_past.Statement.{statement}
 use Rattle.plans.proofs.planned.reads_past.Tie as tie
 
-returns : tie.Need-returns
-returns c = sym (ap (past _) c.before.place.given.1)
+returns : tie.Need-returns-in-Reading
+returns c = sym (ap (past _) c.in-Reading.is)
 
-pub reads-past-spec : {M : Type 1} → statement M
-reads-past-spec = tie.close (tie.spec (λ c. search rules) (λ c. search rules) returns (λ c. search rules))
+pub reads_past_spec : {M : Type 1} → statement M
+reads_past_spec = tie.close (tie.spec (λ c. search rules) (λ c. search rules) returns (λ c. search rules))

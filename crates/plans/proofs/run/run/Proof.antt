@@ -12,19 +12,19 @@ use Rattle.plans.proofs.run.run.Statement.{statement}
 use Rattle.plans.proofs.run.run.Tie as tie
 
 -- nothing is refused
-ready : (c : tie.Else1) → let a = c.before.before.before.before.before.args in (graph_fits a.graph.now ≡ true) × Taken (graph_from a.graph.now) a.plan.now a.store
+ready : (c : tie.Else-no-ne0) → let a = c.before.before.before.before.before.args in (graph_fits a.graph.now ≡ true) × Taken (graph_from a.graph.now) a.plan.now a.store
 ready c =
     let a = c.before.before.before.before.before.args in
-    run-taken a.graph.now a.plan.now a.store (sym c.before.run-refusal.ensures ∙ c.if1.false)
+    run-taken a.graph.now a.plan.now a.store (sym c.before.run_refusal-no.ensures ∙ c.if-no-ne0.false)
 
-sized : (c : tie.Else1) → length c.before.before.before.before.before.args.store.tables ≡ store_size
+sized : (c : tie.Else-no-ne0) → length c.before.before.before.before.before.args.store.tables ≡ store_size
 sized c = search rules
 
-returns : tie.Need-returns
+returns : tie.Need-returns-then-no-ne0
 returns c =
     let at = c.before in
     let a = at.before.before.before.before.args in
-    sym (run-refused a.graph.now a.plan.now a.store a.text.now _ at.run-refusal.ensures c.if1.true)
+    sym (run-refused a.graph.now a.plan.now a.store a.text.now _ at.run_refusal-no.ensures c.if-no-ne0.true)
 
 prepare-requires : tie.Need-prepare-requires
 prepare-requires c κs = ((ready c.before.before).0, (length-replicate {A = ℕ} edges_size 0, length-replicate {A = ℕ} tests_size 0))
@@ -38,12 +38,12 @@ run-requires c κs =
     let p = made.prepare.ensures in
     ((ready at).0, ((t.long, plan-on (graph_from a.graph.now) a.plan.now a.store t), (sized at, (p.1.0, (p.1.1, p.0)))))
 
-returns-2 : tie.Need-returns-2
+returns-2 : tie.Need-returns
 returns-2 c =
     let ran = c.before in
     let at = ran.before.before.before.before.before.before.before.before.before.before in
     let a = at.before.before.before.before.before.args in
-    c.answer.ensures ∙ sym (run-answers a.graph.now a.plan.now a.store a.text.now _ at.before.run-refusal.ensures at.if1.false _ ran.run.ensures)
+    c.answer.ensures ∙ sym (run-answers a.graph.now a.plan.now a.store a.text.now _ at.before.run_refusal-no.ensures at.if-no-ne0.false _ ran.run.ensures)
 
 pub run_spec : {M : Type 1} → statement M
 run_spec =

@@ -30,11 +30,6 @@ returns c =
     let st = c.before.before.before.before in
     sym (starts_none st.args.table.now _ c.before.start-s.ensures.0 st.args.text.now c.if-s-eq-NONE.true)
 
-returns-2 : tie.Need-returns-then-s-eq0 invariant-loop decreases-loop
-returns-2 c =
-    let st = c.before.before.before.before.before in
-    sym (starts-dead st.args.table.now _ c.before.before.start-s.ensures.0 c.before.if-s-eq-NONE.false st.args.text.now c.if-s-eq0.true)
-
 loop-holds : tie.Need-loop-k-init invariant-loop decreases-loop
 loop-holds c =
     let st = c.before.before.before.before.before in
@@ -42,7 +37,7 @@ loop-holds c =
     record {
       state = start-below st.args.table.now _ e c.before.if-s-eq-NONE.false st.requires;
       place = omega arith;
-      left = starts-at st.args.table.now _ e c.before.if-s-eq-NONE.false st.args.text.now c.if-s-eq0.false;
+      left = starts-at st.args.table.now _ e c.before.if-s-eq-NONE.false st.args.text.now (omega arith);
     }
 
 returns-3 : tie.Need-returns-then-t-eq0 invariant-loop decreases-loop
@@ -66,6 +61,9 @@ returns-4 c = turn-ends c.before.before.before.loop-k.invariant c.before.mark_at
 pub walk_spec : {M : Type 1} → statement M
 walk_spec =
     tie.close
-    (tie.spec invariant-loop decreases-loop start-requires returns returns-2 loop-holds (λ c κs. search rules) (λ c κs. search rules)
+    (tie.spec invariant-loop decreases-loop start-requires returns
+    (λ c. let st = c.before.before.before.before.before in
+    sym (starts-dead st.args.table.now _ c.before.before.start-s.ensures.0 c.before.if-s-eq-NONE.false st.args.text.now (omega arith)))
+    loop-holds (λ c κs. search rules) (λ c κs. search rules)
     (λ c κs. search rules) returns-3 (λ c. search rules) (λ c. search rules) loop-again (λ c κs. search rules) (λ c κs. search rules)
     returns-4)

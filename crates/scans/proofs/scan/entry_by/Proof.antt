@@ -11,12 +11,6 @@ returns c =
     let a = c.before.before.before.before.args in
     c.gap.ensures ∙ sym (gives_none a.text.now a.at _ a.r.leaf a.r.end refl c.before.if-r-eq-NO_LEAF.true)
 
-returns-2 : tie.Need-returns-then-r-eq0
-returns-2 c =
-    let at = c.before.before.before in
-    let a = at.before.before.before.args in
-    c.gap-then-r-eq0.ensures ∙ sym (gives-empty a.text.now a.at _ a.r.leaf a.r.end refl at.if-r-eq-NO_LEAF.false c.before.if-r-eq0.true)
-
 add-end : tie.Need-overflow_add-end
 add-end c =
     let at = c.before.before.before in
@@ -27,8 +21,13 @@ returns-3 : tie.Need-returns
 returns-3 c =
     let at = c.before.before.before in
     let a = at.before.before.before.args in
-    sym (gives-token a.text.now a.at _ a.r.leaf a.r.end refl at.if-r-eq-NO_LEAF.false c.before.if-r-eq0.false)
+    sym (gives-token a.text.now a.at _ a.r.leaf a.r.end refl at.if-r-eq-NO_LEAF.false (omega arith))
 
 pub entry_by_spec : {M : Type 1} → statement M
 entry_by_spec =
-    tie.close (tie.spec (λ c κs. search rules) returns (λ c κs. search rules) returns-2 add-end returns-3)
+    tie.close (tie.spec (λ c κs. search rules) returns (λ c κs. search rules)
+    (λ c. let at = c.before.before.before in
+    let a = at.before.before.before.args in
+    let e = gives-empty a.text.now a.at _ a.r.leaf a.r.end refl at.if-r-eq-NO_LEAF.false (omega arith) in
+    cc)
+    add-end returns-3)
