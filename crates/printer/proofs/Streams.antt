@@ -5,6 +5,7 @@ use borrow.Author.Tests.{leb-true, leb-false}
 use lib.Dec.{leb}
 use Rattle.std.proofs.lemmas.List.{take_rest}
 use Rattle.std.proofs.lemmas.Slice.{take-put_mid_below}
+use Rattle.std.specs.declared.io.Error.{Error}
 use Rattle.std.specs.Io.{ReadsAtMost, WritesAtMost}
 use Rattle.std.specs.Io.KnownBytes.{Consumes, Appends, ReadConsumes, WriteAppends}
 use Rattle.std.proofs.KnownBytes.{Consumes-nil, Consumes-kept, Consumes-trans, Appends-nil, Appends-kept, Appends-trans}
@@ -14,19 +15,19 @@ use Rattle.printer.specs.declared.moved.Step.TheVariants.{Moved}
 use Rattle.printer.specs.declared.input.Read.TheVariants.{Bytes}
 use Rattle.printer.specs.Streams.{Says, Took}
 
-module _ {E : Type 0} (a b c : Option (List ℕ)) where
-  read_step : (got : Result ℕ E) (bs : List ℕ) (most n : ℕ) → length bs ≤ most → ReadsAtMost got bs → ReadConsumes b c got bs → Says most got (Moved n)
+module _ (a b c : Option (List ℕ)) where
+  read_step : (got : Result ℕ Error) (bs : List ℕ) (most n : ℕ) → length bs ≤ most → ReadsAtMost got bs → ReadConsumes b c got bs → Says most got (Moved n)
       → Consumes b c (take n bs)
   read_step (Ok m) bs most n room within took says = let same : m ≡ n = omega (arith, within, says.0) in subst (λ k. Consumes b c (take k bs)) same took.0
-  read_step (Err e) bs most n room within took says = subst (λ k. Consumes b c (take k bs)) (sym says) (Consumes-kept b b c [] (Consumes-nil b) took)
+  read_step (Err e) bs most n room within took says = subst (λ k. Consumes b c (take k bs)) (sym says.0) (Consumes-kept b b c [] (Consumes-nil b) took)
 
-  write_step : (got : Result ℕ E) (bs : List ℕ) (n : ℕ) → WritesAtMost got bs → WriteAppends b c got bs → Says (length bs) got (Moved n)
+  write_step : (got : Result ℕ Error) (bs : List ℕ) (n : ℕ) → WritesAtMost got bs → WriteAppends b c got bs → Says (length bs) got (Moved n)
       → Appends b c (take n bs)
   write_step (Ok m) bs n within put says = let same : m ≡ n = omega (arith, within, says.0) in subst (λ k. Appends b c (take k bs)) same put
-  write_step (Err e) bs n within put says = subst (λ k. Appends b c (take k bs)) (sym says) (Appends-kept b b c [] (Appends-nil b) put)
+  write_step (Err e) bs n within put says = subst (λ k. Appends b c (take k bs)) (sym says.0) (Appends-kept b b c [] (Appends-nil b) put)
 
   -- a part of a buffer is read over from place i on
-  pub reads_on : (got : Result ℕ E) (xs bs : List ℕ) (i most n : ℕ) → i ≤ length xs → i + n ≤ length xs → length bs ≡ length xs - i → length bs ≤ most
+  pub reads_on : (got : Result ℕ Error) (xs bs : List ℕ) (i most n : ℕ) → i ≤ length xs → i + n ≤ length xs → length bs ≡ length xs - i → length bs ≤ most
       → ReadsAtMost got bs → ReadConsumes b c got bs → Says most got (Moved n) → Consumes a b (take i xs)
       → Consumes a c (take (i + n) (put_mid i (length xs - i) xs bs))
   reads_on got xs bs i most n start end part room within took says before =
@@ -38,7 +39,7 @@ module _ {E : Type 0} (a b c : Option (List ℕ)) where
       (Consumes-trans a b c (take i xs) (take n bs) before step)
 
   -- a part of a text is written from place i on
-  pub writes_on : (got : Result ℕ E) (text : List ℕ) (i n : ℕ) → WritesAtMost got (take (length text - i) (drop i text))
+  pub writes_on : (got : Result ℕ Error) (text : List ℕ) (i n : ℕ) → WritesAtMost got (take (length text - i) (drop i text))
       → WriteAppends b c got (take (length text - i) (drop i text)) → Says (length (take (length text - i) (drop i text))) got (Moved n)
       → i + n ≤ length text → Appends a b (take i text) → Appends a c (take (i + n) text)
   writes_on got text i n within put says end before =
