@@ -8,7 +8,7 @@ use mathlib.Core.Option.{Option}
 use mathlib.Core.Logic.{⊎_elim}
 use Prim.Native.Nat.{ℕ, ◌≤◌, ◌<◌, ◌-◌}
 use native.Mathlib.Omega.{arith}
-use lib.ListN.{get_or, set}
+use lib.ListN.{get_or}
 use Rattle.lists.proofs.Bools.{lt-or-le}
 use Rattle.graph_rules.specs.Graph.{graph_fits, graph_from}
 use Rattle.graph_rules.specs.Build.{with_early}

@@ -1,5 +1,4 @@
 -- The loop's invariant: kind and the first i leaves are written, and the leaves from there on are to come. The measure is the leaves left. Assumes nothing.
-use borrow.Author.Rules.{rules}
 use mathlib.Core.Path.{◌≡◌, sym, ap, subst, ◌∙◌}
 use mathlib.Core.List.{List, ◌++◌}
 use Prim.Native.Nat.{ℕ, ◌+◌, ◌≤◌, ◌<◌, ◌-◌}
