@@ -49,17 +49,14 @@ loop-again c =
 target-requires : tie.Need-target-requires invariant-loop decreases-loop
 target-requires c κs = let a = St c.before in (a.requires.0, (a.requires.1, omega arith))
 
-accept-by-requires-3 : tie.Need-accept_by-requires-then-target-ne-NONE invariant-loop decreases-loop
-accept-by-requires-3 c κs = let a = St c.before.before.before in (a.requires.0, (a.requires.1, omega arith))
-
 returns-2 : tie.Need-returns-then-accept_by-leaf-2 invariant-loop decreases-loop
 returns-2 c =
     let t = c.before.before.before.target in
     let p = c.before.before.before.before.before in
     let a = St p in
     let w = a.args.graph.now in
-    let (e, l) = edge-some w a.requires.0 a.args.s end_step t.result t.ensures c.before.before.if-target-ne-NONE.true in
-    (end-differs w a.requires.0 a.args.s a.requires.1 t.result e (λ q. c.if-accept_by-leaf-2.true (c.before.accept_by-then-target-ne-NONE.ensures.0 ∙ q ∙ sym (first p))), omega arith)
+    let (e, l) = edge-some w a.requires.0 a.args.s end_step t.result t.ensures (λ q. omega (arith, q)) in
+    (end-differs w a.requires.0 a.args.s a.requires.1 t.result e (λ q. omega (arith, q, first p)), omega arith)
 
 returns-3 : tie.Need-returns-else-accept_by-leaf-2 invariant-loop decreases-loop
 returns-3 c =
@@ -67,24 +64,21 @@ returns-3 c =
     let p = c.before.before.before.before.before in
     let a = St p in
     let w = a.args.graph.now in
-    let (e, l) = edge-some w a.requires.0 a.args.s end_step t.result t.ensures c.before.before.if-target-ne-NONE.true in
-    let all = below_more (λ i. leaf_by w a.args.s i ≡ leaf_by w a.args.s 0) end_step (λ i h. p.loop-b.invariant.1 i (omega arith) ∙ first p)
-    (sym c.before.accept_by-then-target-ne-NONE.ensures.0 ∙ c.if-accept_by-leaf-2.false ∙ first p) in
+    let (e, l) = edge-some w a.requires.0 a.args.s end_step t.result t.ensures (λ q. omega (arith, q)) in
+    let all = below_more (λ i. leaf_by w a.args.s i ≡ leaf_by w a.args.s 0) end_step (λ i h. p.loop-b.invariant.1 i (omega arith) ∙ first p) (omega (arith, first p)) in
     (first p ∙ all-agree w a.requires.0 a.args.s a.requires.1 t.result e all, p.before.accept_by-leaf.ensures.1)
-
-returns-4 : tie.Need-returns-else-target-ne-NONE invariant-loop decreases-loop
-returns-4 c =
-    let t = c.before.target in
-    let p = c.before.before.before in
-    let a = St p in
-    let w = a.args.graph.now in (
-      first p ∙ bytes-agree w a.requires.0 a.args.s a.requires.1 (edge_none w a.requires.0 a.args.s end_step t.result t.ensures c.if-target-ne-NONE.false)
-          (λ i h. p.loop-b.invariant.1 i (omega arith) ∙ first p),
-      p.before.accept_by-leaf.ensures.1,
-    )
 
 pub agreed_leaf_spec : {M : Type 1} → statement M
 agreed_leaf_spec =
     tie.close
     (tie.spec invariant-loop decreases-loop accept-by-requires loop-holds accept-by-requires-2 returns (λ c. omega arith) (λ c. omega arith) loop-again
-    target-requires accept-by-requires-3 returns-2 returns-3 returns-4)
+    target-requires (λ c κs. let a = St c.before.before.before in (a.requires.0, (a.requires.1, omega arith))) returns-2 returns-3
+    (λ c.
+    let t = c.before.target in
+    let p = c.before.before.before in
+    let a = St p in
+    let w = a.args.graph.now in (
+      first p ∙ bytes-agree w a.requires.0 a.args.s a.requires.1 (edge_none w a.requires.0 a.args.s end_step t.result t.ensures (omega arith))
+          (λ i h. p.loop-b.invariant.1 i (omega arith) ∙ first p),
+      p.before.accept_by-leaf.ensures.1,
+    )))

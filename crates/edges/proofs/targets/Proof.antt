@@ -1,10 +1,10 @@
 -- The loop's invariant: the marked states are those that a byte below b leads to. The measure is the bytes left. Assumes nothing.
 use mathlib.Core.Path.{refl}
-use mathlib.Core.Bool.{false}
-use Prim.Native.Nat.{◌-◌, ◌≤◌}
+use mathlib.Core.Bool.{true, false}
+use Prim.Native.Nat.{◌+◌, ◌-◌, ◌≤◌, ◌<◌}
 use native.Mathlib.Omega.{arith}
 use borrow.Author.Rules.{rules}
-use lib.ListN.{length, get_or-replicate}
+use lib.ListN.{length, set, get_or-replicate}
 use Rattle.graph_rules.specs.Graph.{state_of, to, graph_from}
 use Rattle.graph_rules.proofs.Taken.{taken-long}
 use Rattle.graph_rules.proofs.Flat.{from-width}
@@ -31,19 +31,20 @@ loop-holds c =
       marked = λ u k. get_or-replicate most_states u false false k;
     }
 
-loop-again : tie.Need-loop-b-preserved-then-u-lt-STATES invariant-loop decreases-loop
+marked : (c : tie.After-target-u invariant-loop decreases-loop) → c.target-u.result < most_states
+    → Marking (bytes_of (state_of (graph_from c.args.graph.now) c.args.s)) (set c.loop-b.found c.target-u.result true) (c.loop-b.b + 1)
+unfolding to
+marked c h =
+    let at = c.before.before in
+    let s = at.before.before in
+    mark-more (state_of (graph_from s.args.graph.now) s.args.s) (wide s) (omega arith) at.loop-b.invariant _ c.target-u.ensures h
+
+loop-again : tie.Need-loop-b-preserved invariant-loop decreases-loop
 unfolding to
 loop-again c =
     let at = c.before.before.before in
     let s = at.before.before in
-    mark-more (state_of (graph_from s.args.graph.now) s.args.s) (wide s) (omega arith) at.loop-b.invariant _ c.before.target-u.ensures (omega arith)
-
-loop-again-2 : tie.Need-loop-b-preserved invariant-loop decreases-loop
-unfolding to
-loop-again-2 c =
-    let at = c.before.before.before in
-    let s = at.before.before in
-    mark-none (state_of (graph_from s.args.graph.now) s.args.s) (wide s) (omega arith) at.loop-b.invariant _ c.before.target-u.ensures c.if-u-lt-STATES.false
+    mark-none (state_of (graph_from s.args.graph.now) s.args.s) (wide s) (omega arith) at.loop-b.invariant _ c.before.target-u.ensures (omega arith)
 
 returns : tie.Need-returns invariant-loop decreases-loop
 returns c =
@@ -54,5 +55,5 @@ returns c =
 pub targets_spec : {M : Type 1} → statement M
 targets_spec =
     tie.close
-    (tie.spec invariant-loop decreases-loop loop-holds (λ c κs. search rules) (λ c. omega arith) (λ c. omega arith) (λ c. omega arith) loop-again
-    (λ c. omega arith) loop-again-2 returns)
+    (tie.spec invariant-loop decreases-loop loop-holds (λ c κs. search rules) (λ c. omega arith) (λ c. omega arith) (λ c. omega arith) (λ c. marked c.before (omega arith))
+    (λ c. omega arith) loop-again returns)

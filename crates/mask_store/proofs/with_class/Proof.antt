@@ -27,23 +27,19 @@ returns c =
     let known = is_held store class (omega (arith, number_is c.before)) in
     rw (number_is c.before) (sym (add-held store class start.requires known))
 
-returns-2 : tie.Need-returns-then-count-lt-MASKS
-returns-2 c =
+pub with_class_spec : {M : Type 1} → statement M
+with_class_spec =
+    tie.close (tie.spec number-from-requires (λ c κs. search rules) (λ c. search rules) (λ c κs. search rules) returns
+    (λ c.
     let start = c.before.before.before.before.before.before.before.before.before in
     let store = start.args.store in
     let class = start.args.class in
     let new = is-new store class (omega (arith, number_is c.before.before.before.before.before)) in
-    rw c.write_mask.ensures (sym (add-new store class start.requires new (omega arith)))
-
-returns-3 : tie.Need-returns-else-count-lt-MASKS
-returns-3 c =
+    rw c.write_mask.ensures (sym (add-new store class start.requires new (omega arith))))
+    (λ c.
     let at = c.before in
     let start = at.before.before.before.before.before.before in
     let store = start.args.store in
     let class = start.args.class in
     let new = is-new store class (omega (arith, number_is at.before.before)) in
-    c.refused.ensures ∙ sym (add-full store class start.requires new (omega arith))
-
-pub with_class_spec : {M : Type 1} → statement M
-with_class_spec =
-    tie.close (tie.spec number-from-requires (λ c κs. search rules) (λ c. search rules) (λ c κs. search rules) returns returns-2 returns-3)
+    c.refused.ensures ∙ sym (add-full store class start.requires new (omega arith))))

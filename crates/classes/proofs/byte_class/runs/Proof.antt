@@ -40,21 +40,11 @@ loop-again c =
           c.if-not-class-b.branch-raw,
     )
 
-returns : tie.Need-returns-then-start-lt256 invariant-loop decreases-loop
-returns c =
-    let at = c.before.before in
-    let full : at.loop-b.b ≡ 256 = omega arith in
-    (pass-last at.before.args.class (omega arith) (omega arith) (rw full at at.loop-b.invariant.1), omega arith)
-
-returns-2 : tie.Need-returns-else-start-lt256 invariant-loop decreases-loop
-returns-2 c =
-    let at = c.before.before in
-    let full : at.loop-b.b ≡ 256 = omega arith in
-    (pass-end at.before.args.class (omega arith) (omega arith) (rw full at at.loop-b.invariant.1), omega arith)
-
 pub runs_spec : {M : Type 1} → statement M
 runs_spec =
     tie.close
     (tie.spec invariant-loop decreases-loop loop-holds (λ c. search rules) (λ c. search rules) (λ c. search rules) (λ c. search rules) (λ c. search rules)
     (λ c. search rules) (λ c. search rules) (λ c. search rules) (λ c. search rules) (λ c. search rules) loop-again (λ c. search rules)
-    (λ c. search rules) (λ c. search rules) (λ c. search rules) returns returns-2)
+    (λ c. search rules) (λ c. search rules) (λ c. search rules)
+    (λ c. let at = c.before.before in let full : at.loop-b.b ≡ 256 = omega arith in (pass-last at.before.args.class (omega arith) (omega arith) (rw full at at.loop-b.invariant.1), omega arith))
+    (λ c. let at = c.before.before in let full : at.loop-b.b ≡ 256 = omega arith in (pass-end at.before.args.class (omega arith) (omega arith) (rw full at at.loop-b.invariant.1), omega arith)))

@@ -4,7 +4,7 @@ use borrow.Author.Tests.{le-leb, lt-leb}
 use mathlib.Core.Path.{◌≡◌, sym, ap, subst}
 use mathlib.Core.List.{[], ◌∷◌, ◌++◌}
 use mathlib.Core.Logic.{⊎_elim}
-use Prim.Native.Nat.{◌/◌, ◌%◌}
+use Prim.Native.Nat.{◌/◌, ◌%◌, ◌≤◌}
 use native.Mathlib.Omega.{arith}
 use lib.ListN.{length}
 use Rattle.texts.specs.Text.{bytes, one, Counts}
@@ -25,16 +25,8 @@ returns : tie.Need-returns-then-letter-gt0
 returns c = let p = c.before.before in wrote_as (sym (lettered p.before.before)) p.pair.ensures
 
 -- as it is
-plain : (c : tie.Then-b-le126) → escaped c.before.before.before.before.before.args.b ≡ one c.before.before.before.before.before.args.b
-plain c =
-    let e = c.before.before in
-    escaped-plain _ _ e.before.letter-letter.ensures e.if-letter-gt0.false (rw (le-leb _ _ c.before.if-b-ge32.true, le-leb _ _ c.if-b-le126.true))
-
-byte-requires : tie.Need-byte-requires
-byte-requires c κs = let t = c.before in let s = t.before.before.before.before.before in subst (Counts s.args.at) (plain t) s.requires
-
-returns-2 : tie.Need-returns-then-b-le126
-returns-2 c = let p = c.before.before in wrote_as (sym (plain p.before.before)) p.byte.ensures
+plain : (c : tie.Then-b-ge32) → c.args.b ≤ 126 → escaped c.args.b ≡ one c.args.b
+plain c h = let e = c.before in escaped-plain _ _ e.before.letter-letter.ensures e.if-letter-gt0.false (rw (le-leb _ _ c.if-b-ge32.true, le-leb _ _ h))
 
 -- in hexadecimal
 hexed : (c : tie.Joined-else-b-ge32) → escaped c.before.before.before.before.args.b
@@ -42,7 +34,7 @@ hexed : (c : tie.Joined-else-b-ge32) → escaped c.before.before.before.before.a
 hexed c =
     let e = c.before in
     escaped-hex _ _ e.before.letter-letter.ensures e.if-letter-gt0.false
-    (⊎_elim (λ w. rw (le-leb _ _ w.if-b-ge32.true, lt-leb _ _ w.if-b-le126.false)) (λ w. rw (lt-leb _ _ w.if-b-ge32.false)) c.else-b-ge32.branch-raw)
+    (⊎_elim (λ w. rw (le-leb _ _ w.if-b-ge32.true, lt-leb c.args.b 126 (omega arith))) (λ w. rw (lt-leb _ _ w.if-b-ge32.false)) c.else-b-ge32.branch-raw)
 
 pair-requires-2 : tie.Need-pair-next-requires
 pair-requires-2 c κs = let t = c.before in let s = t.before.before.before.before in omega (arith, s.requires, ap length (hexed t))
@@ -64,5 +56,7 @@ returns-3 c =
 pub escape_default_spec : {M : Type 1} → statement M
 escape_default_spec =
     tie.close
-    (tie.spec (λ c κs. search rules) pair-requires (λ c. search rules) returns byte-requires (λ c. search rules) returns-2 pair-requires-2
+    (tie.spec (λ c κs. search rules) pair-requires (λ c. search rules) returns
+    (λ c κs. subst (Counts c.args.at) (plain c.before.before (omega arith)) c.requires) (λ c. search rules)
+    (λ c. let p = c.before.before in wrote_as (sym (plain p.before.before.before (omega arith))) p.byte.ensures) pair-requires-2
     (λ c κs. search rules) (λ c κs. search rules) pair-requires-3 (λ c. search rules) returns-3)

@@ -50,13 +50,6 @@ start-requires c κs = let e = exact c.before.before.before.before.before.before
 without-start-requires : tie.Need-without_start-requires
 without-start-requires c κs = (few c.before.before.before, room c.before.before.before)
 
-returns-3 : tie.Need-returns-then-start-eq-NONE
-returns-3 c =
-    let at = c.before.before.before.before.before.before.before.before in
-    let st = at.before.before.before.before.before.before.before.before.before in
-    c.before.before.before.before.without_start.ensures
-    ∙ new-built st.args.table.now st.args.graph.now st.args.errors.now (legal at) _ at.before.before.before.states-n.ensures.0 (room at) _ (build-none (table_of st.args.table.now) (start_none st.args.table.now (sym at.start-start.ensures.0 ∙ c.before.before.before.before.before.before.before.if-start-eq-NONE.true)))
-
 with-empty-requires : tie.Need-with_empty-requires
 with-empty-requires c κs = (legal c.before.before.before.before.before, (c.before.before.before.count_empty-count.ensures, (few c.before.before.before.before.before, room c.before.before.before.before.before)))
 
@@ -65,21 +58,27 @@ returns-4 c =
     let at = c.before.before.before.before.before.before.before.before.before.before in
     let st = at.before.before.before.before.before.before.before.before.before in
     c.before.before.before.before.with_empty.ensures
-    ∙ new-built st.args.table.now st.args.graph.now st.args.errors.now (legal at) _ at.before.before.before.states-n.ensures.0 (room at) _ (build-empty (table_of st.args.table.now) _ (some-start at c.before.before.before.before.before.before.before.before.before.if-start-eq-NONE.false) (λ z. c.before.before.before.before.before.before.before.if-count-ne0.true (c.before.before.before.before.before.before.before.before.count_empty-count.ensures ∙ z)))
+    ∙ new-built st.args.table.now st.args.graph.now st.args.errors.now (legal at) _ at.before.before.before.states-n.ensures.0 (room at) _ (build-empty (table_of st.args.table.now) _ (some-start at (λ q. omega (arith, q))) (λ z. c.before.before.before.before.before.before.before.if-count-ne0.true (c.before.before.before.before.before.before.before.before.count_empty-count.ensures ∙ z)))
 
 with-states-requires : tie.Need-with_states-requires
-with-states-requires c κs = (legal c.before.before.before.before.before, (some-start c.before.before.before.before.before c.before.before.before.before.if-start-eq-NONE.false, (c.before.before.before.before.before.before.before.before.states-n.ensures.0, room c.before.before.before.before.before)))
+with-states-requires c κs = (legal c.before.before.before.before.before, (some-start c.before.before.before.before.before (λ q. omega (arith, q)), (c.before.before.before.before.before.before.before.before.states-n.ensures.0, room c.before.before.before.before.before)))
 
 returns-5 : tie.Need-returns
 returns-5 c =
     let at = c.before.before.before.before.before.before.before.before.before.before in
     let st = at.before.before.before.before.before.before.before.before.before in
     c.before.before.before.before.with_states.ensures
-    ∙ new-built st.args.table.now st.args.graph.now st.args.errors.now (legal at) _ at.before.before.before.states-n.ensures.0 (room at) _ (build-states (table_of st.args.table.now) _ (some-start at c.before.before.before.before.before.before.before.before.before.if-start-eq-NONE.false) (sym c.before.before.before.before.before.before.before.before.count_empty-count.ensures ∙ c.before.before.before.before.before.before.before.if-count-ne0.false))
+    ∙ new-built st.args.table.now st.args.graph.now st.args.errors.now (legal at) _ at.before.before.before.states-n.ensures.0 (room at) _ (build-states (table_of st.args.table.now) _ (some-start at (λ q. omega (arith, q))) (sym c.before.before.before.before.before.before.before.before.count_empty-count.ensures ∙ c.before.before.before.before.before.before.before.if-count-ne0.false))
 
 pub new_spec : {M : Type 1} → statement M
 new_spec =
     tie.close
     (tie.spec (λ c κs. search rules) cast-t9 returns states-requires (λ c κs. search rules) returns-2 start-requires without-start-requires
-    (λ c. search rules) (λ c. search rules) returns-3 (λ c κs. search rules) with-empty-requires (λ c. search rules) (λ c. search rules)
+    (λ c. search rules) (λ c. search rules)
+    (λ c.
+    let at = c.before.before.before.before.before.before.before.before in
+    let st = at.before.before.before.before.before.before.before.before.before in
+    c.before.before.before.before.without_start.ensures
+    ∙ new-built st.args.table.now st.args.graph.now st.args.errors.now (legal at) _ at.before.before.before.states-n.ensures.0 (room at) _ (build-none (table_of st.args.table.now) (start_none st.args.table.now (omega arith))))
+    (λ c κs. search rules) with-empty-requires (λ c. search rules) (λ c. search rules)
     returns-4 with-states-requires (λ c. search rules) (λ c. search rules) returns-5)

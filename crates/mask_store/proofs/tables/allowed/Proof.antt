@@ -18,9 +18,6 @@ invariant-loop tables count i₀ i = (i ≤ count) × (none_twice (masks tables 
 abbrev decreases-loop : tie.decreases-loop-i
 decreases-loop tables count i₀ i = count - i
 
-returns : tie.Need-returns-then-count-gt-MASKS invariant-loop decreases-loop
-returns c = sym (allowed-over (store_of c.before.args.tables.now c.before.args.count) c.if-count-gt-MASKS.true)
-
 loop-holds : tie.Need-loop-i-init invariant-loop decreases-loop
 loop-holds c = (search rules, refl)
 
@@ -69,5 +66,5 @@ returns-3 c =
 pub allowed_spec : {M : Type 1} → statement M
 allowed_spec =
     tie.close
-    (tie.spec invariant-loop decreases-loop returns loop-holds (λ c κs. search rules) (λ c. search rules) number-from-requires returns-2
+    (tie.spec invariant-loop decreases-loop (λ c. sym (allowed-over (store_of c.before.args.tables.now c.before.args.count) (omega arith))) loop-holds (λ c κs. search rules) (λ c. search rules) number-from-requires returns-2
     (λ c. search rules) (λ c. search rules) loop-again returns-3)
