@@ -1,3 +1,4 @@
+pub mod Text
 pub mod Display
 pub mod Answers
 pub mod Report

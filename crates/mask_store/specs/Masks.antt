@@ -10,7 +10,7 @@ use Rattle.mask_store.specs.declared.AddAnswer.{AddAnswer}
 use Rattle.mask_store.specs.declared.AddAnswer.TheVariants.{Number, Refused}
 use Rattle.mask_store.specs.declared.Added.{Added}
 
--- ---- masks in the tables
+-- ---- "mask i is bit i mod 8 of table i / 8"
 
 -- table t
 unfoldable pub table_at : List ℕ → ℕ → List ℕ
