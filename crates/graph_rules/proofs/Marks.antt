@@ -16,7 +16,6 @@ use Rattle.graph_rules.specs.Graph.{State, Graph, blank, state_of, to, accept_of
 use Rattle.graph_rules.specs.Build.{present, children, accept_by, agreed, with_early, covered, cleared, with_cleared}
 use Rattle.graph_rules.proofs.Agreed.{agreed-at}
 use Rattle.graph_rules.proofs.Views.{edge_leads, edge-within, out-blank}
-use Rattle.graph_rules.proofs.Merge.{rest}
 use Rattle.graph_rules.specs.Layout.{end_step, step_count}
 
 some-within : (l : List (Option ℕ)) (i x : ℕ) → get_or l i none ≡ some x → i < length l

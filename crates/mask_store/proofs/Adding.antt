@@ -2,7 +2,7 @@
 use mathlib.Core.Path.{◌≡◌, refl, sym, ap, ◌∙◌}
 use mathlib.Core.Bool.{Bool, true, false, cond, not, ◌&&◌, ◌||◌}
 use mathlib.Core.List.{[], ◌∷◌, ◌++◌}
-use Prim.Native.Nat.{ℕ, ◌+◌, ◌≤◌, ◌<◌}
+use Prim.Native.Nat.{ℕ, ◌+◌, ◌≤◌, ◌<◌, ◌*◌}
 use native.Mathlib.Numerals.{add-one}
 use native.Mathlib.Omega.{arith}
 use borrow.Author.Tests.{ltb-true, ltb-false, lt-ltb, le-ltb, le-leb, eq-eqb}
@@ -118,7 +118,7 @@ module _ (s : MaskStore) (c : Class) where
 
 -- ---- the store after the call
 
-module _ (s : MaskStore) (c : Class) (size : length s.tables ≡ store_size) (wide : length c ≡ 256) where
+module _ (s : MaskStore) (c : Class) (size : length s.tables ≡ 2048) (wide : length c ≡ 256) where
   -- the class is taken, and it is new
   abbrev pub grows : Bool
   grows = takes s (c ∷ []) && not (among (held s) c)
@@ -156,9 +156,9 @@ module _ (s : MaskStore) (c : Class) (size : length s.tables ≡ store_size) (wi
 
   -- Every bit of the store after the call: bit k of byte b of table t belongs to mask 8 t + k. Only if the class is taken and is new, and only in
   -- the mask that it becomes, a bit is written, and it is then the class's flag. Every other bit is unchanged, also those of masks that mean nothing.
-  pub add-bits : (t b k : ℕ) → b < table_size → k < table_masks
-      → bit (get_or (add s c).store.tables (entry_place t b) 0) k
-      ≡ cond (grows && eqb (mask_of t k) s.count) (cond (has c b) 1 0) (bit (get_or s.tables (entry_place t b) 0) k)
+  pub add-bits : (t b k : ℕ) → b < 256 → k < 8
+      → bit (get_or (add s c).store.tables (256 * t + b) 0) k
+      ≡ cond (grows && eqb (8 * t + k) s.count) (cond (has c b) 1 0) (bit (get_or s.tables (256 * t + b) 0) k)
   add-bits t b k hb hk = go (which s c)
     where
       go : Case s c → bit (get_or (add s c).store.tables (entry_place t b) 0) k

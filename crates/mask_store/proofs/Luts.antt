@@ -2,7 +2,7 @@
 use mathlib.Core.Path.{◌≡◌, sym, ap, ◌∙◌}
 use mathlib.Core.Bool.{true, false, cond}
 use mathlib.Core.List.{List, [], map}
-use Prim.Native.Nat.{ℕ, ◌%◌, ◌^◌, ◌≤◌, ◌<◌}
+use Prim.Native.Nat.{ℕ, ◌%◌, ◌^◌, ◌≤◌, ◌<◌, ◌*◌, ◌+◌}
 use native.Mathlib.Nat.{zero-mod}
 use native.Mathlib.Omega.{arith}
 use borrow.Author.Tests.{ltb-true, ltb-false}
@@ -50,7 +50,7 @@ module _ (s : MaskStore) where
       go (no-is q) = let h : s.count ≤ mask_of t k = ltb-false _ _ q in rw q (bit-mod-above word (used_in s.count t) k (omega arith))
 
   -- that is: the flag of the class that is held as mask 8 t + k, and 0 where none is
-  pub luts-flag : (t b k : ℕ) → t < table_count → b < table_size → k < table_masks → bit (get_or (get_or (luts s) t []) b 0) k ≡ cond (ltb (mask_of t k) s.count) (cond (has (class_at s.tables (mask_of t k)) b) 1 0) 0
+  pub luts-flag : (t b k : ℕ) → t < 8 → b < 256 → k < 8 → bit (get_or (get_or (luts s) t []) b 0) k ≡ cond (ltb (8 * t + k) s.count) (cond (has (class_at s.tables (8 * t + k)) b) 1 0) 0
   luts-flag t b k ht hb hk = luts-bit t b k ht hk ∙ ap (λ (n : ℕ). cond (ltb (mask_of t k) s.count) n 0) (table-bit s.tables t b k hb hk)
 
   -- ---- as a loop fills them

@@ -3,7 +3,7 @@
 use mathlib.Core.Path.{◌≡◌}
 use mathlib.Core.Bool.{true, false, cond, ◌&&◌}
 use mathlib.Core.List.{List, []}
-use Prim.Native.Nat.{ℕ, ◌≤◌, ◌<◌}
+use Prim.Native.Nat.{ℕ, ◌≤◌, ◌<◌, ◌*◌, ◌+◌}
 use borrow.Author.Tests.{leb-true, le-ltb}
 use lib.Dec.{leb, ltb}
 use lib.ListN.{length, get_or}
@@ -46,7 +46,7 @@ left_by set graph buffer store =
     go (yes-is a) (no-is x) (yes-is y) = rw (a, x, y, plan_call) (has-grown a y)
 
 -- bit k of byte b of table t belongs to mask 8 t + k
-module _ (set : Settings) (graph : List ℕ) (store : MaskStore) (size : length store.tables ≡ store_size) (t b k : ℕ) (byte : b < table_size) (one : k < table_masks) where
+module _ (set : Settings) (graph : List ℕ) (store : MaskStore) (size : length store.tables ≡ 2048) (t b k : ℕ) (byte : b < 256) (one : k < 8) where
   left-bits : (after : MaskStore) → Left set graph store after
       → bit (get_or after.tables (entry_place t b) 0) k
       ≡ cond (leb store.count (mask_of t k) && ltb (mask_of t k) after.count) (cond (has (get_or (held_with store (needs set (graph_from graph))) (mask_of t k) []) b) 1 0)
@@ -56,8 +56,8 @@ module _ (set : Settings) (graph : List ℕ) (store : MaskStore) (size : length 
       grown-bits store (needs set (graph_from graph)) size (needs-whole set graph a) (takes-few store (needs set (graph_from graph)) y) t b k byte one
 
   pub plan-bits : (buffer : List ℕ)
-      → bit (get_or (plan_call set graph buffer store).planning.store.tables (entry_place t b) 0) k
-      ≡ cond (leb store.count (mask_of t k) && ltb (mask_of t k) (plan_call set graph buffer store).planning.store.count)
-      (cond (has (get_or (held_with store (needs set (graph_from graph))) (mask_of t k) []) b) 1 0)
-      (bit (get_or store.tables (entry_place t b) 0) k)
+      → bit (get_or (plan_call set graph buffer store).planning.store.tables (256 * t + b) 0) k
+      ≡ cond (leb store.count (8 * t + k) && ltb (8 * t + k) (plan_call set graph buffer store).planning.store.count)
+      (cond (has (get_or (held_with store (needs set (graph_from graph))) (8 * t + k) []) b) 1 0)
+      (bit (get_or store.tables (256 * t + b) 0) k)
   plan-bits buffer = left-bits (plan_call set graph buffer store).planning.store (left_by set graph buffer store)

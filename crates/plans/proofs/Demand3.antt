@@ -102,7 +102,7 @@ module _ (set : Settings) (sane : Sane set) (table graph errors : List ℕ) (c :
   readings-alike clean = tied-alike clean.orderly (clean-no-empty (table_of table) clean)
 
   -- on the store that planning left
-  pub own-alike : Clean (table_of table) → (buffer : List ℕ) (store : MaskStore) → length store.tables ≡ store_size
+  pub own-alike : Clean (table_of table) → (buffer : List ℕ) (store : MaskStore) → length store.tables ≡ 2048
       → (added : ℕ) → (plan_call set built buffer store).planning.answer ≡ Planned added → (text : List ℕ) → Bytes text
       → run_call set built (plan_call set built buffer store).buffer (plan_call set built buffer store).planning.store text ≡ table_read table text
   own-alike clean buffer store size added p text bytes =

@@ -1,6 +1,7 @@
 // Standard input, read to its end.
 ghost use Rattle.std.specs.Prelude.{length};
 ghost use Rattle.printer.specs.Moved.{ReadWithin};
+ghost use Rattle.printer.specs.Streams.{Took};
 
 use crate::moved;
 use crate::moved::Step;
@@ -16,7 +17,8 @@ pub enum Read {
 // Reads until the input ends or the buffer is full, or tells on standard error why not. A proved loop has to end, so the reads are counted, from a
 // number that no run uses up.
 pub fn read_all<R: io::Read>(rt: &impl Eprint, input: &mut R, buf: &mut [u8]) -> Read
-    ensures { ReadWithin (length buf.old) result }
+    ensures within { ReadWithin (length buf.old) result }
+    ensures bytes { Took (R.remaining input.old) (R.remaining input.new) result buf.new }
 {
     let mut done: usize = 0;
     let mut reads = u64::MAX;

@@ -5,11 +5,14 @@
 // program then ends with status 1; after a failed read nothing is printed.
 #![tactic(auto)]
 
-ghost use Rattle.std.specs.Prelude.{◌≡◌, length};
-ghost use Rattle.print.specs.Print.{most_printed};
+ghost use Rattle.std.specs.Prelude.{◌≡◌, true, length, IfSome};
+ghost use Rattle.std.specs.Io.KnownBytes.{Appends};
+ghost use Rattle.print.specs.Print.{most_printed, printed};
+ghost use Rattle.printer.specs.Streams.{input_image};
 
 use display::Shown;
 use input::Read;
+use std::io;
 use std::io::Write;
 use std::process::ExitCode;
 
@@ -25,7 +28,9 @@ fn room() -> [u8; print::ROOM]
 }
 
 // Prints all that is to be printed for an image, and answers whether all of it was written.
-fn show<W: Write>(rt: &impl Eprint, out: &mut W, image: &[u8]) -> bool {
+fn show<W: Write>(rt: &impl Eprint, out: &mut W, image: &[u8]) -> bool
+    ensures { result ≡ true → Appends (W.contents out.old) (W.contents out.new) (printed image.now) }
+{
     let mut text = room();
     match print::print(image, &mut text) {
         Shown::Bytes(n) => output::write_all(rt, out, &text[..n]),
@@ -37,15 +42,22 @@ fn show<W: Write>(rt: &impl Eprint, out: &mut W, image: &[u8]) -> bool {
     }
 }
 
-fn main(rt: HostRuntime) -> ExitCode {
+// Prints all that is to be printed for the image that an input is, and answers whether all was read and written.
+fn run<R: io::Read, W: Write>(rt: &impl Eprint, input: &mut R, out: &mut W) -> bool
+    ensures { result ≡ true → IfSome (R.remaining input.old)
+        (λ xs. Appends (W.contents out.old) (W.contents out.new) (printed (input_image xs))) }
+{
     let mut space = [0u8; 65537];
+    match input::read_all(rt, input, &mut space) {
+        Read::Bytes(n) => show(rt, out, &space[..n]),
+        Read::Broken => false,
+    }
+}
+
+fn main(rt: HostRuntime) -> ExitCode {
     let mut input = rt.stdin();
     let mut out = rt.stdout();
-    let done = match input::read_all(&rt, &mut input, &mut space) {
-        Read::Bytes(n) => show(&rt, &mut out, &space[..n]),
-        Read::Broken => false,
-    };
-    if done {
+    if run(&rt, &mut input, &mut out) {
         ExitCode::SUCCESS
     } else {
         ExitCode::FAILURE

@@ -1,6 +1,7 @@
 // What one call of a reader or a writer has done.
 ghost use Rattle.std.specs.Prelude.{length};
 ghost use Rattle.printer.specs.Moved.{StepWithin};
+ghost use Rattle.printer.specs.Streams.{Says};
 
 use std::io;
 use std::io::ErrorKind;
@@ -15,7 +16,8 @@ pub enum Step {
 
 // What a call has done, by its answer and the bytes that it was handed.
 pub fn judged(got: io::Result<usize>, buf: &[u8]) -> Step
-    ensures { StepWithin (length buf.now) result }
+    ensures within { StepWithin (length buf.now) result }
+    ensures says { Says (length buf.now) got result }
 {
     match got {
         Ok(0) => Step::End,

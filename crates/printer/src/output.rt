@@ -1,11 +1,16 @@
 // Standard output, written whole.
+ghost use Rattle.std.specs.Prelude.{◌≡◌, true};
+ghost use Rattle.std.specs.Io.KnownBytes.{Appends};
+
 use crate::moved;
 use crate::moved::Step;
 use std::io;
 
 // Writes all of a text, in as many writes as it takes, or tells on standard error why not; answers whether all of it was written. As in
 // `read_all`, the writes are counted.
-pub(crate) fn write_all<W: io::Write>(rt: &impl Eprint, out: &mut W, text: &[u8]) -> bool {
+pub(crate) fn write_all<W: io::Write>(rt: &impl Eprint, out: &mut W, text: &[u8]) -> bool
+    ensures { result ≡ true → Appends (W.contents out.old) (W.contents out.new) text.now }
+{
     let mut done: usize = 0;
     let mut writes = u64::MAX;
     while writes > 0 {

@@ -6,7 +6,6 @@ use mathlib.Core.Option.{some, none}
 use mathlib.Core.Logic.{⊎_elim}
 use Prim.Native.Nat.{ℕ, ◌≤◌, ◌<◌, ◌-◌}
 use native.Mathlib.Omega.{arith}
-use borrow.Author.Tests.{eqb-true, eqb-false, not-true, not-false}
 use lib.ListN.{length, get_or}
 use Rattle.lists.specs.Lists.{eq_option}
 use Rattle.lists.proofs.Bools.{none-some, some_inj}

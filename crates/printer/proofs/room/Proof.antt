@@ -9,5 +9,5 @@ use Rattle.printer.proofs.room.Tie as tie
 returns : tie.Need-returns
 returns c = sym (length-replicate {A = ℕ} most_printed 0)
 
-pub room-spec : {M : Type 1} → statement M
-room-spec = tie.close (tie.spec returns)
+pub room_spec : {M : Type 1} → statement M
+room_spec = tie.close (tie.spec returns)

@@ -6,7 +6,6 @@ use mathlib.Core.List.{List, ◌++◌}
 use mathlib.Core.Logic.{⊎_elim}
 use Prim.Native.Nat.{ℕ, ◌+◌, ◌-◌, ◌≤◌, ◌<◌}
 use native.Mathlib.Omega.{arith}
-use borrow.Author.Tests.{not-true, not-false}
 use lib.ListN.{length, get_or, replicate}
 use Rattle.lists.specs.Sets.{count}
 use Rattle.lists.proofs.Counting.{count-length}

@@ -4,7 +4,6 @@ use mathlib.Core.Path.{◌≡◌, sym, ap, subst, ◌∙◌}
 use mathlib.Core.Logic.{◌⊎◌, inr}
 use Prim.Native.Nat.{ℕ, ◌≤◌, ◌<◌, ◌-◌}
 use native.Mathlib.Omega.{arith}
-use lib.ListN.{set}
 use Rattle.graph_rules.specs.Layout.{no_state, most_states, row_words, graph_place}
 use Rattle.relabel.specs.Names.{new_word, Moved}
 use Rattle.relabel.proofs.Rows.{moved_none, moved_more}

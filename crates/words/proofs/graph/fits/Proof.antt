@@ -2,7 +2,6 @@
 use mathlib.Core.Path.{sym, ◌∙◌}
 use native.Mathlib.Omega.{arith}
 use borrow.Author.Rules.{rules}
-use borrow.Author.Tests.{not-true, not-false}
 use Rattle.words.proofs.Fitting.{unfit-short, unfit-long, unfit-many, unfit-target, fits-none, fits-some}
 use Rattle.words.proofs.graph.fits.Statement.{statement}
 use Rattle.words.proofs.graph.fits.Tie as tie

@@ -1,0 +1,24 @@
+-- The room suffices, so the text is there whole. Assumes nothing.
+use Rattle.std.proofs.Common.{rules, sym, subst, length-take-le}
+use Rattle.std.specs.Io.KnownBytes.{Appends}
+use Rattle.printer.proofs.Printed.{taken, within, in_front}
+use Rattle.printer.proofs.show.Goals as goal
+
+pub slice_bounds-text-end : goal.slice_bounds-text-end
+slice_bounds-text-end g c =
+    within c.args.image.now c.room-text.result c.in-Bytes.ensures.room c.room-text.ensures c.in-Bytes.n c.print.new.out c.in-Bytes.ensures.answer (search rules)
+
+pub slice_bounds-write_all-end : goal.slice_bounds-write_all-end
+slice_bounds-write_all-end g c =
+    sym
+    (length-take-le c.in-Bytes.n c.print.new.out
+    (within c.args.image.now c.room-text.result c.in-Bytes.ensures.room c.room-text.ensures c.in-Bytes.n c.print.new.out c.in-Bytes.ensures.answer (search rules)))
+
+pub expect-requires : goal.expect-requires
+expect-requires g c = absurd (taken c.args.image.now c.room-text.result c.in-Refused.ensures.room c.room-text.ensures c.in-Refused.field-0 c.in-Refused.ensures.answer)
+
+pub returns-in-Bytes : goal.returns-in-Bytes
+returns-in-Bytes g c done =
+    subst (Appends _ _)
+    (in_front c.args.image.now c.room-text.result c.in-Bytes.ensures.room c.room-text.ensures c.in-Bytes.n c.print.new.out c.in-Bytes.ensures.answer c.in-Bytes.ensures.buffer)
+    (c.write_all.ensures done)
