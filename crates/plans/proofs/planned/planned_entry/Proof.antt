@@ -11,7 +11,6 @@ use Rattle.plans.proofs.PlannedScans.{run-reads}
 use borrow.Author.Rules.{rules}
 use Rattle.plans.proofs.planned.planned_entry.Statement.{statement}
 use Rattle.plans.proofs.planned.planned_entry.Tie as tie
-use Rattle.runner.proofs.run.run.Reads as run-reads
 
 -- what the run found is what the graph reads
 found : (c : tie.After-run-r) → let st = c.before.before.before.before.before.before.before in

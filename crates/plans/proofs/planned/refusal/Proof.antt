@@ -1,7 +1,6 @@
 -- 12, then the offset, then why the words are no plan. Assumes nothing.
 use mathlib.Core.Path.{◌≡◌, sym, ◌∙◌}
 use mathlib.Core.Bool.{true}
-use borrow.Author.Tests.{not-true, not-false}
 use Rattle.graph_rules.specs.Graph.{graph_fits}
 use Rattle.plans.proofs.PlannedScans.{planned-unfit, planned-past, planned-in}
 use borrow.Author.Rules.{rules}

@@ -47,12 +47,6 @@ returns-2 c =
     let a = at.before.before.before.before.before.args in
     sym (plan-full (graph_from a.graph.now) a.plan.now a.store (long at.before) (was-refused a.store _ at.grow-grown.ensures (not-true _ c.if-not-grown.true)))
 
-returns-3 : tie.Need-returns-then-needed-count
-returns-3 c =
-    let at = c.before.before in
-    let a = at.before.before.before.before.before.before.before.args in
-    sym (plan-lacks (graph_from a.graph.now) a.plan.now a.store (long at.before.before.before) (took at) _ (stored at) (λ e. omega (arith, c.if-needed-count.true)))
-
 agrees-requires : tie.Need-agrees-requires
 agrees-requires c κs =
     let at = c.before.before.before.before in
@@ -65,7 +59,7 @@ returns-4 c =
     let same = c.before.before.before.before in
     let at = same.before.before in
     let a = at.before.before.before.before.before.before.before.args in
-    sym (plan-taken (graph_from a.graph.now) a.plan.now a.store (long at.before.before.before) (took at) _ (stored at) (omega (arith, same.if-needed-count.false)) (sym c.before.agrees.ensures ∙ c.if-agrees.true))
+    sym (plan-taken (graph_from a.graph.now) a.plan.now a.store (long at.before.before.before) (took at) _ (stored at) (omega arith) (sym c.before.agrees.ensures ∙ c.if-agrees.true))
 
 returns-5 : tie.Need-returns-else-agrees
 returns-5 c =
@@ -75,4 +69,10 @@ returns-5 c =
 
 pub refusal_spec : {M : Type 1} → statement M
 refusal_spec =
-    tie.close (tie.spec states-requires (λ c. search rules) returns (λ c κs. search rules) returns-2 returns-3 agrees-requires returns-4 returns-5)
+    tie.close
+    (tie.spec states-requires (λ c. search rules) returns (λ c κs. search rules) returns-2
+    (λ c.
+    let at = c.before.before in
+    let a = at.before.before.before.before.before.before.before.args in
+    sym (plan-lacks (graph_from a.graph.now) a.plan.now a.store (long at.before.before.before) (took at) _ (stored at) (λ e. omega (arith, e))))
+    agrees-requires returns-4 returns-5)

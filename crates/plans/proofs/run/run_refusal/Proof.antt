@@ -1,6 +1,5 @@
 -- 12, or why the words are no plan. Assumes nothing.
 use mathlib.Core.Path.{sym, ◌∙◌}
-use borrow.Author.Tests.{not-true, not-false}
 use Rattle.plans.proofs.Running.{run-unfit, run_fits}
 use borrow.Author.Rules.{rules}
 use Rattle.plans.proofs.run.run_refusal.Statement.{statement}
