@@ -1,6 +1,6 @@
 // The text of an angle, written into a lent buffer from its front, as the functions of crate `texts` do.
 
-ghost use Rattle.std.specs.Prelude.{◌≡◌, ◌≤◌};
+ghost use Rattle.std.specs.Prelude.{◌≤◌};
 ghost use Rattle.texts.specs.Text.{Wrote};
 ghost use Rattle.angles.specs.Angles.{limit, hyphen, text_of};
 

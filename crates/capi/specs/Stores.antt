@@ -1,10 +1,9 @@
 -- A mask store that a caller holds as a block, its eight tables of 256 bytes one after another, and a count. Definitions only.
-use Rattle.std.specs.Prelude.{Bool, cond, List, [], ℕ, suc, ◌/◌, ◌%◌, eqb, length, get_or, replicate}
+use Rattle.std.specs.Prelude.{Bool, cond, List, [], ℕ, ◌/◌, ◌%◌, eqb, length, get_or, replicate}
 use Rattle.lists.specs.Lists.{tab}
 use Rattle.classes.specs.Classes.{Class}
 use Rattle.mask_store.specs.declared.MaskStore.{MaskStore}
 use Rattle.mask_store.specs.declared.Added.{Added}
-use Rattle.mask_store.specs.Layout.{table_count, table_size, store_size, most_masks}
 use Rattle.mask_store.specs.Masks.{store_of, refused_with, add, Rendered, render}
 use Rattle.capi.specs.Lent.{Put, put}
 

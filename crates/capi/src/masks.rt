@@ -1,6 +1,5 @@
 // The mask store, which is held by the caller as a block of 2,048 bytes, the eight tables one after another, and a count.
 ghost use Rattle.std.specs.Prelude.{◌≡◌, [], ◌∷◌, length};
-ghost use Rattle.mask_store.specs.Layout.{store_size};
 ghost use Rattle.mask_store.specs.Masks.{store_of, add_report};
 ghost use Rattle.capi.specs.Lent.{flags_of};
 ghost use Rattle.capi.specs.Stores.{store_in, add_to, flat, render_to};

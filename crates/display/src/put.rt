@@ -1,6 +1,6 @@
 // Writing into a lent buffer from a place on, by the functions of `texts`, for callers of this crate. What passes the buffer's end is counted and not
 // written, so that a run over no bytes measures a text.
-ghost use Rattle.std.specs.Prelude.{◌≡◌, [], ◌∷◌, ◌++◌, ◌+◌, ◌<◌};
+ghost use Rattle.std.specs.Prelude.{[], ◌∷◌, ◌++◌};
 ghost use Rattle.texts.specs.Text.{one, decimal, Wrote, Counts};
 
 // One byte.

@@ -58,7 +58,7 @@ module _ (s : MaskStore) (c : Class) where
   grown-held q = grown-none s (c ∷ []) (and_intro (among (held s) c) _ q refl)
 
   -- "with the classes needed that it lacks would pass 64", for one class
-  pub takes_one : takes s (c ∷ []) ≡ (allowed s && (among (held s) c || ltb s.count most_masks))
+  pub takes_one : takes s (c ∷ []) ≡ (allowed s && (among (held s) c || ltb s.count 64))
   unfolding takes
   takes_one = go (is (allowed s)) (is (among (held s) c))
     where

@@ -62,7 +62,7 @@ module _ (set : Settings) (sane : Sane set) (graph buffer : List ℕ) (store : M
   plan-reads other fine holds text bytes = taken-reads set graph words other sane (plan-good other fine holds) text bytes
 
   -- the store that planning leaves is one of those stores
-  module _ (size : length store.tables ≡ store_size) where
+  module _ (size : length store.tables ≡ 2048) where
     pub left-allowed : allowed (plan_call set graph buffer store).planning.store ≡ true
     left-allowed = rw left.store_is (own-allowed set graph left.legal store size left.room)
 

@@ -2,7 +2,6 @@
 ghost use Rattle.std.specs.Prelude.{◌≡◌, true, ◌<◌, ◌≤◌, length, drop};
 ghost use Rattle.graph_rules.specs.Graph.{graph_fits, graph_from};
 ghost use Rattle.graph_rules.specs.Read.{read_graph};
-ghost use Rattle.mask_store.specs.Layout.{store_size};
 ghost use Rattle.plan_rules.specs.Plan.{base, plan_size};
 ghost use Rattle.runner.specs.Prepared.{edges_size, tests_size, Prepared, PlanOn};
 ghost use Rattle.scans.specs.Scan.{entry_of, past};

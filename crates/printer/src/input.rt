@@ -14,7 +14,7 @@ pub enum Read {
     Broken,
 }
 
-// Reads until the input ends or the buffer is full, or tells on standard error why not. A proved loop has to end, so the reads are counted, from a
+// Reads until the input ends or the buffer is full, or tells on standard error why a read failed. A proved loop has to end, so the reads are counted, from a
 // number that no run uses up.
 pub fn read_all<R: io::Read>(rt: &impl Eprint, input: &mut R, buf: &mut [u8]) -> Read
     ensures within { ReadWithin (length buf.old) result }

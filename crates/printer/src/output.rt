@@ -6,7 +6,7 @@ use crate::moved;
 use crate::moved::Step;
 use std::io;
 
-// Writes all of a text, in as many writes as it takes, or tells on standard error why not; answers whether all of it was written. As in
+// Writes all of a text, in as many writes as it takes, or tells on standard error why a write failed; answers whether all of it was written. As in
 // `read_all`, the writes are counted.
 pub(crate) fn write_all<W: io::Write>(rt: &impl Eprint, out: &mut W, text: &[u8]) -> bool
     ensures { result ≡ true → Appends (W.contents out.old) (W.contents out.new) text.now }

@@ -1,26 +1,24 @@
 // A class: its ranges, its comparisons, its cost; and the operations that a comparison counts.
 use vectors::cases::{number, part, shaped};
-use vectors::parts::{written, zeros};
+use vectors::parts::padded;
 
 fn ranges_alike(class: &[bool; 256], case: &[u8]) -> bool {
-    let zeros = zeros();
     let held = classes::byte_class::ranges(class);
     held.count == part(case, 1).len()
-        && written(&held.first, part(case, 1), &zeros)
+        && padded(&held.first, part(case, 1), 0)
         && held.count == part(case, 2).len()
-        && written(&held.last, part(case, 2), &zeros)
+        && padded(&held.last, part(case, 2), 0)
 }
 
 fn comparisons_alike(class: &[bool; 256], case: &[u8]) -> bool {
-    let zeros = zeros();
     let cmp = classes::byte_class::impl_with_cmp(class);
     cmp.count == part(case, 3).len()
-        && written(&cmp.first, part(case, 3), &zeros)
+        && padded(&cmp.first, part(case, 3), 0)
         && cmp.count == part(case, 4).len()
-        && written(&cmp.last, part(case, 4), &zeros)
+        && padded(&cmp.last, part(case, 4), 0)
         && cmp.count == part(case, 5).len()
-        && written(&cmp.holes, part(case, 5), &zeros)
-        && written(&cmp.except, part(case, 6), &zeros)
+        && padded(&cmp.holes, part(case, 5), 0)
+        && padded(&cmp.except, part(case, 6), 0)
 }
 
 pub(crate) fn alike(case: &[u8]) -> bool {

@@ -3,7 +3,7 @@ ghost use Rattle.std.specs.Prelude.{◌<◌};
 
 use mask_store::{AddAnswer, Added, MaskStore};
 use vectors::cases::{number, part};
-use vectors::parts::{written, zeros};
+use vectors::parts::padded;
 
 // A store to which classes are added, and whether all were given the numbers that are said.
 #[derive(Clone, Copy)]
@@ -58,8 +58,7 @@ fn all_added(start: MaskStore, classes: &[u8], numbers: &[u8], by_loan: bool) ->
 fn table_alike(table: [u8; 256], t: usize, given: &[u8]) -> bool
     requires { t < 8 }
 {
-    let zeros = zeros();
-    written(&table, vectors::part(given, 256 * t, 256), &zeros)
+    padded(&table, vectors::part(given, 256 * t, 256), 0)
 }
 
 fn rendered_alike(store: MaskStore, refusal: usize, given: &[u8]) -> bool {

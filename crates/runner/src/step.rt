@@ -1,6 +1,6 @@
 // How a byte leads on from a state (docs/RULES.md, "Planned run"): by the row's targets if the plan says table, else along the edge whose mask has
 // the byte or whose comparisons hold.
-ghost use Rattle.std.specs.Prelude.{◌≡◌, true, [], ℕ, ◌+◌, ◌<◌, ◌≤◌, length, get_or};
+ghost use Rattle.std.specs.Prelude.{◌≡◌, true, [], ℕ, ◌<◌, ◌≤◌, length, get_or};
 ghost use Rattle.graph_rules.specs.Layout.{no_state};
 ghost use Rattle.graph_rules.specs.Graph.{State, graph_fits, graph_from, or_none};
 ghost use Rattle.classes.specs.Classes.{comparisons};

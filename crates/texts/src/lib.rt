@@ -6,7 +6,7 @@
 #![tactic(auto)]
 
 ghost use Rattle.std.specs.Prelude.{◌≡◌, [], ◌∷◌, ◌++◌, ◌+◌, ◌<◌};
-ghost use Rattle.texts.specs.Text.{one, digit_byte, decimal, Wrote, Counts};
+ghost use Rattle.texts.specs.Text.{one, decimal, Wrote, Counts};
 
 // One byte.
 pub fn byte(out: &mut [u8], at: usize, b: u8) -> usize
@@ -57,7 +57,7 @@ pub fn number(out: &mut [u8], at: usize, n: usize) -> usize
 // The digit of a number below 10.
 fn digit(d: usize) -> u8
     requires { d < 10 }
-    ensures { result ≡ digit_byte d }
+    ensures { result ≡ 48 + d }
 {
     b'0' + d as u8
 }
