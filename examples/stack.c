@@ -7,7 +7,7 @@
  *
  * prints a line a call, its bytes and its name, as
  *
- *   137528 build
+ *   271624 build
  */
 #define _GNU_SOURCE
 #include <stdio.h>
