@@ -10,6 +10,12 @@ rest_is a i value = all_l (λ x. eqb x value) (drop i a)
 abbrev pub Tells : Bool → Type 0 → Type 0
 Tells r holds = (r ≡ true → holds) × (holds → r ≡ true)
 
+-- a buffer begins with a text, and every byte behind it has that value
+pub record Padded (now text : List ℕ) (value : ℕ) : Type 0 where
+  pub room : length text ≤ length now
+  pub same : take (length text) now ≡ text
+  pub rest : rest_is now (length text) value ≡ true
+
 -- a buffer is a text, and behind it what it was before; `before` may be longer
 pub record Written (now text before : List ℕ) : Type 0 where
   pub room : length now ≤ length before

@@ -1,6 +1,6 @@
 // Buffers of bytes, compared with a part of a case and with what they were before a call.
 ghost use Rattle.std.specs.Prelude.{◌≡◌, replicate};
-ghost use Rattle.vectors.specs.Parts.{rest_is, Tells, Written, filled};
+ghost use Rattle.vectors.specs.Parts.{rest_is, Tells, Padded, Written, filled};
 
 // What a buffer was that was all zeros.
 pub fn zeros() -> [u8; 256]
@@ -35,7 +35,9 @@ pub fn rest_is(a: &[u8], i: usize, value: u8) -> bool
 }
 
 // Whether a buffer begins with those bytes, and every further one has that value.
-pub fn padded(a: &[u8], front: &[u8], value: u8) -> bool {
+pub fn padded(a: &[u8], front: &[u8], value: u8) -> bool
+    ensures { Tells result (Padded a.now front.now value) }
+{
     let n = front.len();
     n <= a.len() && check::same(&a[0..n], front) && rest_is(a, n, value)
 }
