@@ -1,4 +1,5 @@
 -- Texts read and angles written, computed. Assumes nothing.
+use Rattle.std.specs.Prelude.{Option, Some, None}
 use mathlib.Core.Path.{◌≡◌, refl}
 use mathlib.Core.List.{List, [], ◌∷◌, ◌++◌, map}
 use Prim.Native.Nat.{ℕ, ◌-◌}
@@ -81,8 +82,8 @@ too-far-read = refl
 
 -- ---- written
 
-abbrev of : ℕ → List ℕ → Written
-of n bytes = record { bytes = bytes ++ replicate (7 - n) 0; length = n }
+abbrev of : ℕ → List ℕ → Option Written
+of n bytes = Some (record { bytes = bytes ++ replicate (7 - n) 0; length = n })
 
 pub written : map written_of (pos 0 ∷ pos 5 ∷ negsuc 4 ∷ negsuc 49 ∷ pos 999 ∷ pos 1000 ∷ pos 18000 ∷ negsuc 17999 ∷ [])
     ≡ of 4 (bytes "0.00") ∷ of 4 (bytes "0.05") ∷ of 5 (bytes "-0.05") ∷ of 5 (bytes "-0.50") ∷ of 4 (bytes "9.99") ∷ of 5 (bytes "10.00")
@@ -90,6 +91,6 @@ pub written : map written_of (pos 0 ∷ pos 5 ∷ negsuc 4 ∷ negsuc 49 ∷ pos
 unfolding written_of text_of decimal
 written = refl
 
-pub not_written : map written_of (pos 18001 ∷ negsuc 18000 ∷ pos 2147483647 ∷ negsuc 2147483647 ∷ []) ≡ of 0 [] ∷ of 0 [] ∷ of 0 [] ∷ of 0 [] ∷ []
+pub not_written : map written_of (pos 18001 ∷ negsuc 18000 ∷ pos 2147483647 ∷ negsuc 2147483647 ∷ []) ≡ None ∷ None ∷ None ∷ None ∷ []
 unfolding written_of text_of decimal
 not_written = refl

@@ -1,5 +1,7 @@
 -- What is written has the form that specs/Meaning.antt says, in range; out of range there is no text. Assumes nothing.
-use mathlib.Core.Path.{◌≡◌, refl, sym, ap, subst, ◌∙◌}
+use Rattle.std.specs.Prelude.{None}
+use Rattle.std.specs.Option.{IsSomeAnd}
+use mathlib.Core.Path.{◌≡◌, refl, sym, ap, ◌∙◌}
 use mathlib.Core.Bool.{Bool, true, false, not}
 use mathlib.Core.List.{List, [], ◌∷◌, ◌++◌, append_assoc}
 use mathlib.Core.Logic.{◌⊎◌, inl, inr}
@@ -123,9 +125,9 @@ padded-form v h =
       zeros = drop_at t z (length t) refl;
     }
 
-pub written-form : (v : ℤ) → nat_abs v ≤ limit → Form v (written_of v)
-written-form v h = subst (Form v) (sym (written-some v h)) (padded-form v h)
+pub written-form : (v : ℤ) → nat_abs v ≤ limit → IsSomeAnd (written_of v) (Form v)
+written-form v h = rw (written-some v h) (padded-form v h)
 
--- out of range: seven zeros, and no length
-pub unwritten-form : (v : ℤ) → limit < nat_abs v → written_of v ≡ record { bytes = replicate 7 0; length = 0 }
+-- out of range
+pub unwritten-form : (v : ℤ) → limit < nat_abs v → written_of v ≡ None
 unwritten-form v h = sym (written_none v h)

@@ -1,4 +1,5 @@
 -- The text of an angle: how long it is at most, and seven bytes that begin with it. Assumes nothing.
+use Rattle.std.specs.Prelude.{Option, Some, None}
 use mathlib.Core.Path.{◌≡◌, sym, ap, subst, ◌∙◌}
 use mathlib.Core.Bool.{Bool, true, false}
 use mathlib.Core.List.{List, [], ◌∷◌, ◌++◌}
@@ -42,23 +43,23 @@ drop-zeros zero (suc k) = let e : zero ≡ zero - suc k = omega arith in ap zero
 drop-zeros (suc n) (suc k) = let e : n - k ≡ suc n - suc k = omega arith in drop-zeros n k ∙ ap zeros e
 
 module _ (v : ℤ) where
-  pub written_none : limit < nat_abs v → padded [] ≡ written_of v
+  pub written_none : limit < nat_abs v → None ≡ written_of v
   unfolding written_of
   written_none h = rw (lt-leb (nat_abs v) limit h)
 
-  pub written-some : nat_abs v ≤ limit → written_of v ≡ padded (text_of (lt_z v (pos 0)) (nat_abs v))
+  pub written-some : nat_abs v ≤ limit → written_of v ≡ Some (padded (text_of (lt_z v (pos 0)) (nat_abs v)))
   unfolding written_of
   written-some h = rw (le-leb (nat_abs v) limit h)
 
   pub written-laid : {below : Bool} {m : ℕ} {out : List ℕ} {next : ℕ} → below ≡ lt_z v (pos 0) → m ≡ nat_abs v → m ≤ limit
-      → Wrote (replicate 7 0) 0 (text_of below m) out next → ◌≡◌ {A = Written} (record { bytes = out; length = next }) (written_of v)
+      → Wrote (replicate 7 0) 0 (text_of below m) out next → ◌≡◌ {A = Option Written} (Some (record { bytes = out; length = next })) (written_of v)
   written-laid {below} {m} {out} {next} b e h w =
       let t = text_of below m in
       let place : next ≡ length t = front-place t w in
       let laid : out ≡ t ++ replicate (7 - length t) 0 =
       front-buffer t w (text-size below m h) ∙ ap (λ (l : List ℕ). t ++ l) (ap (λ (k : ℕ). drop k (zeros 7)) place ∙ drop-zeros 7 (length t)) in
-      ap (λ (o : List ℕ). record { bytes = o; length = next }) laid
-      ∙ ap (λ (k : ℕ). record { bytes = t ++ replicate (7 - length t) 0; length = k }) place
-      ∙ ap (λ (x : Bool). padded (text_of x m)) b
-      ∙ ap (λ (k : ℕ). padded (text_of (lt_z v (pos 0)) k)) e
+      ap (λ (o : List ℕ). Some (record { bytes = o; length = next })) laid
+      ∙ ap (λ (k : ℕ). Some (record { bytes = t ++ replicate (7 - length t) 0; length = k })) place
+      ∙ ap (λ (x : Bool). Some (padded (text_of x m))) b
+      ∙ ap (λ (k : ℕ). Some (padded (text_of (lt_z v (pos 0)) k))) e
       ∙ sym (written-some (subst (λ (k : ℕ). k ≤ limit) e h))

@@ -1,5 +1,6 @@
 -- `angle_of` answers a number exactly if the text shows that number, and missing exactly if the text is three hyphens; every other text is not an angle.
 -- Assumes nothing.
+use Rattle.std.specs.Prelude.{Option, Some, None, cond}
 use mathlib.Core.Path.{◌≡◌, refl, sym, ap, subst, ◌∙◌}
 use mathlib.Core.Bool.{Bool, true, false, false≢true}
 use mathlib.Core.List.{List, [], ◌∷◌, ◌++◌}
@@ -43,6 +44,32 @@ module _ (t : List ℕ) where
       → angle_of t ≡ Hundredths (signed (is_hyphen (get_or t 0 0)) (magnitude (body t)))
   unfolding angle_of
   is-angle e s h = rw (e, s, le-leb (magnitude (body t)) limit h)
+
+  -- as the call learns of a text without its sign whether it means a number, and which
+  module _ {b : List ℕ} {o : Option ℕ} (here : b ≡ body t) (e : eq_list eqb t hyphens ≡ false) (told : o ≡ cond (shaped b) (Some (magnitude b)) None) where
+    at_body : o ≡ cond (shaped (body t)) (Some (magnitude (body t))) None
+    at_body = rw (← here) told
+
+    module _ {n : ℕ} (some : o ≡ Some n) where
+      parts-told : (shaped (body t) ≡ true) × (n ≡ magnitude (body t))
+      parts-told = go (is (shaped (body t)))
+        where
+          go : Is (shaped (body t)) → (shaped (body t) ≡ true) × (n ≡ magnitude (body t))
+          go (yes-is q) = let a = at_body in let f : cond (shaped (body t)) (Some (magnitude (body t))) None ≡ Some (magnitude (body t)) = rw q in (q, cc)
+          go (no-is q) = let a = at_body in let f : cond (shaped (body t)) (Some (magnitude (body t))) None ≡ None = rw q in let z : ◌≡◌ {A = ℕ} 0 1 = cc in absurd (omega arith)
+
+      pub read-angle : n ≤ limit → angle_of t ≡ Hundredths (signed (is_hyphen (get_or t 0 0)) n)
+      read-angle h = let (s, m) = parts-told in rw m (is-angle e s (rw (← m) h))
+
+      pub read-far : limit < n → angle_of t ≡ NotAnAngle
+      read-far h = let (s, m) = parts-told in is-far e (rw (← m) h)
+
+    pub read-none : o ≡ None → angle_of t ≡ NotAnAngle
+    read-none gone = go (is (shaped (body t)))
+      where
+        go : Is (shaped (body t)) → angle_of t ≡ NotAnAngle
+        go (yes-is q) = let a = at_body in let f : cond (shaped (body t)) (Some (magnitude (body t))) None ≡ Some (magnitude (body t)) = rw q in let z : ◌≡◌ {A = ℕ} 0 1 = cc in absurd (omega arith)
+        go (no-is q) = is-not-shaped e q
 
   -- which of them it is
   pub data Answers : Type 0 where

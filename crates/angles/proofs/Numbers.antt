@@ -4,15 +4,13 @@ use mathlib.Core.Bool.{true, false}
 use mathlib.Core.List.{List, [], ◌∷◌, ◌++◌}
 use Prim.Native.Nat.{ℕ, zero, suc, ◌+◌, ◌-◌, ◌*◌, ◌/◌, ◌%◌, ◌^◌, ◌≤◌, ◌<◌}
 use native.Mathlib.Nat.{not-suc-le-zero, pow-suc, mul_assoc, mul-le-mul_right}
-use native.Mathlib.Numerals.{add-one}
 use native.Mathlib.Omega.{arith}
 use borrow.Author.Tests.{ltb-true, ltb-false, leb-true, le-leb, ne_eqb}
 use lib.Dec.{ltb, leb}
-use lib.ListN.{length, get_or, take, length-append, get_or-append}
-use lib.Seq.{take-suc, length-take-le}
+use lib.ListN.{length, get_or, length-append, get_or-append}
 use Rattle.lists.specs.Lists.{all_l}
 use Rattle.lists.proofs.Bools.{Is, is, yes-is, no-is, and_both, and_intro}
-use Rattle.lists.proofs.Elements.{all-at, all_join, all_take}
+use Rattle.lists.proofs.Elements.{all-at, all_join}
 use Rattle.texts.specs.Text.{digit_byte, one, digits, decimal}
 use Rattle.angles.specs.Angles.{plus_byte, hyphen_byte, is_digit, is_sign, is_hyphen, number}
 
@@ -67,17 +65,6 @@ number-few (a ∷ []) h d = let n = number-less (a ∷ []) d in omega arith
 number-few (a ∷ b ∷ []) h d = let n = number-less (a ∷ b ∷ []) d in omega arith
 number-few (a ∷ b ∷ c ∷ []) h d = let n = number-less (a ∷ b ∷ c ∷ []) d in omega arith
 number-few (a ∷ b ∷ c ∷ e ∷ l) h d = absurd (omega arith)
-
--- taken digit by digit
-module _ (l : List ℕ) (few : length l ≤ 3) (d : all_l is_digit l ≡ true) (i : ℕ) (h : i < length l) where
-  pub so_far : number (take i l) < 1000
-  so_far = let n = length-take-le i l (omega arith) in number-few (take i l) (omega arith) (all_take is_digit i l d)
-
-  pub next-digit : (digit_byte 0 ≤ get_or l i 0) × (get_or l i 0 ≤ digit_byte 9)
-  next-digit = digit-from (get_or l i 0) (all-at is_digit l i 0 d h)
-
-  pub number-next : number (take i l) * 10 + (get_or l i 0 - digit_byte 0) ≡ number (take (i + 1) l)
-  number-next = rw (add-one i) (sym (number_more (take i l) (get_or l i 0)) ∙ ap number (sym (take-suc l i 0 h)))
 
 -- ---- the digits of a number
 

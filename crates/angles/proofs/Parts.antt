@@ -1,19 +1,24 @@
 -- A text taken apart: its sign, and the digits in front of what follows. Assumes nothing.
 use mathlib.Core.Path.{◌≡◌, refl, sym, ap, subst, ◌∙◌}
-use mathlib.Core.Bool.{Bool, true, false, ◌&&◌, false≢true}
+use mathlib.Core.Bool.{Bool, true, false, cond, ◌&&◌}
 use mathlib.Core.List.{List, [], ◌∷◌, ◌++◌}
 use mathlib.Core.Logic.{◌⊎◌, inl, inr}
 use Prim.Native.Nat.{ℕ, suc, ◌+◌, ◌-◌, ◌*◌, ◌≤◌, ◌<◌}
 use native.Mathlib.Numerals.{add-one}
 use native.Mathlib.Omega.{arith}
-use borrow.Author.Tests.{eqb-true, eq-eqb, ne_eqb, leb-true, le-leb}
+use borrow.Author.Tests.{eqb-true, eq-eqb, leb-true, le-leb}
 use lib.Dec.{eqb, leb, eqb-suc-suc, eqb-zero-suc}
-use lib.ListN.{length, get_or, take, drop, length-append, length-drop, get_or-eq_default, drop_of_length-le}
+use Rattle.std.specs.Cmp.Lexicographic.{pointwise}
+use Rattle.std.specs.Prelude.{Some, None}
+use Rattle.std.specs.Char.{is_ascii_digit}
+use Rattle.std.specs.List.{take_while}
+use Rattle.std.proofs.lemmas.List.Sums.{take_while-cons}
+use lib.ListN.{length, get_or, take, drop, length-append, length-drop, get_or-eq_default}
 use lib.Seq.{drop-cons, take_at, take_all}
 use Rattle.lists.specs.Lists.{all_l, eq_list}
-use Rattle.lists.proofs.Bools.{Is, is, yes-is, no-is, and_both, and_intro, bool-ext, lt-or-le}
+use Rattle.lists.proofs.Bools.{Is, is, yes-is, no-is, and_both, and_intro, lt-or-le}
 use Rattle.lists.proofs.Elements.{eqb-sound, list-sound}
-use Rattle.angles.specs.Angles.{plus_byte, hyphen_byte, point_byte, is_digit, number, is_sign, is_hyphen, sign_size, body, whole, fraction, shaped, magnitude, hyphens}
+use Rattle.angles.specs.Angles.{plus_byte, hyphen_byte, point_byte, is_digit, number, is_sign, is_hyphen, body, whole, fraction, shaped, magnitude, hyphens}
 use Rattle.angles.specs.Meaning.{Sign, none, plus, hyphen, sign_text, is_below}
 
 -- ---- a text from a place on
@@ -33,32 +38,18 @@ not-missing t n = go (is (eq_list eqb t hyphens))
     go (yes-is q) = absurd (n (missing-is t q))
     go (no-is q) = sym q
 
--- byte by byte
-missing-bytes : (t : List ℕ) → length t ≡ 3 → eq_list eqb t hyphens ≡ (eqb (get_or t 0 0) hyphen_byte && (eqb (get_or t 1 0) hyphen_byte && eqb (get_or t 2 0) hyphen_byte))
-missing-bytes [] h = absurd (omega arith)
-missing-bytes (a ∷ []) h = absurd (omega arith)
-missing-bytes (a ∷ b ∷ []) h = absurd (omega arith)
-missing-bytes (a ∷ b ∷ c ∷ []) h = go (eqb a hyphen_byte) (eqb b hyphen_byte) (eqb c hyphen_byte)
+-- as slices of bytes are compared
+pub same_text : (a b : List ℕ) → eq_list eqb a b ≡ pointwise eqb a b
+same_text [] [] = refl
+same_text [] (y ∷ b) = refl
+same_text (x ∷ a) [] = refl
+same_text (x ∷ a) (y ∷ b) = go (eqb x y) (same_text a b)
   where
-    go : (x y z : Bool) → elim x [ true ↦ elim y [ true ↦ elim z [ true ↦ true | false ↦ false ] | false ↦ false ] | false ↦ false ] ≡ (x && (y && z))
-    go true true true = refl
-    go true true false = refl
-    go true false z = refl
-    go false y z = refl
-missing-bytes (a ∷ b ∷ c ∷ d ∷ t) h = absurd (omega arith)
-
--- the last thing that is asked
-pub last-hyphen : (t : List ℕ) → length t ≡ 3 → get_or t 0 0 ≡ hyphen_byte → get_or t 1 0 ≡ hyphen_byte → eqb (get_or t 2 0) hyphen_byte ≡ eq_list eqb t hyphens
-last-hyphen t h p q = sym (missing-bytes t h ∙ rw (eq-eqb (get_or t 0 0) hyphen_byte p, eq-eqb (get_or t 1 0) hyphen_byte q))
+    go : (t : Bool) → eq_list eqb a b ≡ pointwise eqb a b → elim t [ true ↦ eq_list eqb a b | false ↦ false ] ≡ (t && pointwise eqb a b)
+    go true e = e
+    go false e = refl
 
 -- ---- the sign
-
-pub sign-here : (t : List ℕ) → is_sign (get_or t 0 0) ≡ true → (1 ≡ sign_size t) × (1 ≤ length t)
-sign-here [] e = absurd (false≢true e)
-sign-here (x ∷ t) e = (sym (rw e), omega arith)
-
-pub no_sign : (t : List ℕ) → (get_or t 0 0 ≡ plus_byte → ⊥) → (get_or t 0 0 ≡ hyphen_byte → ⊥) → 0 ≡ sign_size t
-no_sign t n m = sym (rw (ne_eqb (get_or t 0 0) plus_byte n, ne_eqb (get_or t 0 0) hyphen_byte m))
 
 sign-none : (x : ℕ) (t : List ℕ) → eqb x plus_byte ≡ false → eqb x hyphen_byte ≡ false → body (x ∷ t) ≡ x ∷ t
 sign-none x t p q = rw (p, q)
@@ -84,9 +75,6 @@ module _ (b : List ℕ) (n : is_sign (get_or b 0 0) ≡ false) where
   body_is plus = refl
   body_is hyphen = refl
 
-pub body-part : (t : List ℕ) {k : ℕ} → k ≡ sign_size t → take (length t - k) (drop k t) ≡ body t
-body-part t {k} e = tail-is t k ∙ ap (λ (j : ℕ). drop j t) e
-
 -- ---- the digits in front
 
 pub whole-digits : (b : List ℕ) → all_l is_digit (whole b) ≡ true
@@ -108,9 +96,6 @@ whole_split (x ∷ b) = go (is (is_digit x)) (whole_split b)
 pub whole-yes : (x : ℕ) (b : List ℕ) → is_digit x ≡ true → whole (x ∷ b) ≡ x ∷ whole b
 whole-yes x b q = rw (q, whole)
 
-pub whole-no : (x : ℕ) (b : List ℕ) → is_digit x ≡ false → whole (x ∷ b) ≡ []
-whole-no x b q = rw (q, whole)
-
 -- digits up to a byte that is none
 pub whole-front : (w f : List ℕ) → all_l is_digit w ≡ true → whole (w ++ (point_byte ∷ f)) ≡ w
 whole-front [] f h = refl
@@ -126,6 +111,14 @@ whole-all (x ∷ l) = go (is (is_digit x)) (whole-all l)
     go : Is (is_digit x) → eqb (length (whole l)) (length l) ≡ all_l is_digit l → eqb (length (whole (x ∷ l))) (suc (length l)) ≡ all_l is_digit (x ∷ l)
     go (yes-is q) i = rw (q, whole) (eqb-suc-suc (length (whole l)) (length l) ∙ i)
     go (no-is q) i = rw (q, whole) (eqb-zero-suc (length l))
+
+pub whole-within : (b : List ℕ) → length (whole b) ≤ length b
+whole-within b = let e = ap length (whole_split b) ∙ length-append (whole b) (drop (length (whole b)) b) in omega arith
+
+pub whole-all-digits : (l : List ℕ) → (length l ≤ length (whole l) → all_l is_digit l ≡ true) × (all_l is_digit l ≡ true → length l ≤ length (whole l))
+whole-all-digits l =
+    let e = whole-all l in
+    (λ h. sym e ∙ eq-eqb (length (whole l)) (length l) (let k = whole-within l in omega arith), λ d. let q = eqb-true (length (whole l)) (length l) (e ∙ d) in omega arith)
 
 whole_take : (b : List ℕ) → take (length (whole b)) b ≡ whole b
 whole_take b = ap (take (length (whole b))) (whole_split b) ∙ take_at (whole b) (drop (length (whole b)) b) (length (whole b)) refl
@@ -182,19 +175,6 @@ module _ (b : List ℕ) where
       go (yes-is q) = absurd (n (shaped-parts q))
       go (no-is q) = sym q
 
-  -- the last thing that is asked: all that follows the point are digits
-  pub last-shaped : {k r : ℕ} → k ≡ length (whole b) → r ≡ length (whole (take (length b - (k + 1)) (drop (k + 1) b))) → 1 ≤ k → k ≤ 3
-      → get_or b k 0 ≡ point_byte → 1 ≤ length b - (k + 1) → length b - (k + 1) ≤ 2 → eqb r (length b - (k + 1)) ≡ shaped b
-  last-shaped {k} {r} w d l h p s f =
-      let n : length (fraction b) ≡ length b - suc (length (whole b)) = length-drop (suc (length (whole b))) b in
-      let e : length b - (k + 1) ≡ length (fraction b) = omega arith in
-      ap (λ (x : ℕ). eqb x (length b - (k + 1))) (d ∙ ap (λ (t : List ℕ). length (whole t)) (fraction-part b w))
-      ∙ ap (eqb (length (whole (fraction b)))) e
-      ∙ whole-all (fraction b)
-      ∙ bool-ext (all_l is_digit (fraction b)) (shaped b)
-      (λ q. parts-shaped (record { low = omega arith; high = omega arith; point = sym (ap (λ (j : ℕ). get_or b j 0) w) ∙ p; some = omega arith; few = omega arith; digits = q }))
-      (λ q. (shaped-parts q).digits)
-
   module _ (p : Shaped b) where
     -- the point is there
     pub point-within : length (whole b) < length b
@@ -224,33 +204,27 @@ module _ (b : List ℕ) where
   unfolding magnitude
   magnitude-hundredths e = sym (rw e (let i : 1 * number (fraction b) ≡ number (fraction b) = omega arith in ap (λ (k : ℕ). 100 * number (whole b) + k) i))
 
--- ---- counted one by one
+-- ---- counted
 
-pub record Ahead (b : List ℕ) (i : ℕ) : Type 0 where
-  pub within : i ≤ length b
-  pub counted : length (whole b) ≡ i + length (whole (drop i b))
+whole_is : (b : List ℕ) → whole b ≡ take_while is_ascii_digit b
+whole_is [] = refl
+whole_is (x ∷ b) = go (is (is_digit x)) (whole_is b) ∙ sym (take_while-cons is_ascii_digit x b)
+  where
+    go : Is (is_digit x) → whole b ≡ take_while is_ascii_digit b → whole (x ∷ b) ≡ cond (is_ascii_digit x) (x ∷ take_while is_ascii_digit b) []
+    go (yes-is q) e = rw (q, whole, e)
+    go (no-is q) e = rw (q, whole)
+
+pub whole-length : (b : List ℕ) {n : ℕ} → n ≡ length (take_while is_ascii_digit b) → (n ≡ length (whole b)) × (n ≤ length b)
+whole-length b e =
+    let h = whole-within b in
+    let f = ap length (whole_is b) in
+    (omega arith, omega arith)
+
+-- ---- what the call answers
 
 module _ (b : List ℕ) where
-  pub ahead_none : Ahead b 0
-  ahead_none = record { within = omega arith; counted = omega arith }
+  pub no-magnitude : (Shaped b → ⊥) → None ≡ cond (shaped b) (Some (magnitude b)) None
+  no-magnitude n = rw (← not-shaped b n)
 
-  module _ {i : ℕ} (a : Ahead b i) where
-    pub ahead_more : i < length b → is_digit (get_or b i 0) ≡ true → Ahead b (i + 1)
-    ahead_more h d =
-        let e : length (whole (drop i b)) ≡ suc (length (whole (drop (suc i) b))) =
-        ap (λ (l : List ℕ). length (whole l)) (drop-cons b i 0 h) ∙ ap length (whole-yes (get_or b i 0) (drop (suc i) b) d) in
-        let c = a.counted in
-        record { within = omega arith; counted = rw (add-one i) (omega arith) }
-
-    pub ahead-stop : i < length b → is_digit (get_or b i 0) ≡ false → i ≡ length (whole b)
-    ahead-stop h d =
-        let e : length (whole (drop i b)) ≡ 0 =
-        ap (λ (l : List ℕ). length (whole l)) (drop-cons b i 0 h) ∙ ap length (whole-no (get_or b i 0) (drop (suc i) b) d) in
-        let c = a.counted in
-        omega arith
-
-    pub ahead-end : length b ≤ i → i ≡ length (whole b)
-    ahead-end h =
-        let e : length (whole (drop i b)) ≡ 0 = ap (λ (l : List ℕ). length (whole l)) (drop_of_length-le b h) in
-        let c = a.counted in
-        omega arith
+  pub some-magnitude : Shaped b → {n : ℕ} → n ≡ magnitude b → Some n ≡ cond (shaped b) (Some (magnitude b)) None
+  some-magnitude p e = rw (parts-shaped b p, e)

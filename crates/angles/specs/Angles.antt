@@ -1,6 +1,6 @@
 -- Angles in hundredths of a degree: which angle a text is, and the text of an angle. All of a text counts; nothing is trimmed. Definitions only; what a
 -- text that is an angle looks like is said again in Meaning.antt, without taking texts apart.
-use Rattle.std.specs.Prelude.{Bool, true, false, ◌&&◌, ◌||◌, cond, List, [], ◌∷◌, ◌++◌, ℕ, suc, ◌+◌, ◌-◌, ◌*◌, ◌/◌, ◌%◌, ◌^◌, eqb, leb, ℤ, pos, neg_ℤ, nat_abs, length, get_or, drop, replicate}
+use Rattle.std.specs.Prelude.{Bool, true, false, ◌&&◌, ◌||◌, cond, Option, Some, None, List, [], ◌∷◌, ◌++◌, ℕ, suc, ◌+◌, ◌-◌, ◌*◌, ◌/◌, ◌%◌, ◌^◌, eqb, leb, ℤ, pos, neg_ℤ, nat_abs, length, get_or, drop, replicate}
 use Rattle.std.specs.Int.Signed.{lt_z}
 use Rattle.lists.specs.Lists.{all_l, eq_list}
 use Rattle.texts.specs.Text.{digit_byte, bytes, one, decimal}
@@ -95,5 +95,5 @@ abbrev pub padded : List ℕ → Written
 padded t = record { bytes = t ++ replicate (7 - length t) 0; length = length t }
 
 -- a value out of range has no text
-unfoldable pub written_of : ℤ → Written
-written_of v = cond (leb (nat_abs v) limit) (padded (text_of (lt_z v (pos 0)) (nat_abs v))) (padded [])
+unfoldable pub written_of : ℤ → Option Written
+written_of v = cond (leb (nat_abs v) limit) (Some (padded (text_of (lt_z v (pos 0)) (nat_abs v)))) None

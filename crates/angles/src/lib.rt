@@ -16,15 +16,16 @@ mod text;
 // The greatest angle, in hundredths.
 const LIMIT: u32 = 18000;
 
-#[derive(Clone, Copy)]
+// Neither Option nor Result: a text that is missing is no mistake.
+#[derive(Clone, Copy, PartialEq, Eq)]
 pub enum Angle {
     Hundredths(i32),
     Missing,
     NotAnAngle,
 }
 
-// A text of `length` bytes, and zeros after it. A length of 0: there is no text.
-#[derive(Clone, Copy)]
+// A text of `length` bytes, and zeros after it. (An array and a length: the repository has no heap.)
+#[derive(Clone, Copy, PartialEq, Eq)]
 pub struct Written {
     pub bytes: [u8; 7],
     pub length: usize,
@@ -37,33 +38,22 @@ pub fn read(text: &[u8]) -> Angle
     if digits::is_missing(text) {
         return Angle::Missing;
     }
-    let start = digits::sign_size(text);
-    let body = &text[start..];
-    if !digits::shaped(body) {
-        return Angle::NotAnAngle;
+    let parts = signs::without_sign(text);
+    match digits::magnitude(parts.body) {
+        Some(size) if size <= LIMIT => Angle::Hundredths(signs::signed(parts.below, size)),
+        _ => Angle::NotAnAngle,
     }
-    let size = digits::magnitude(body);
-    if LIMIT < size {
-        return Angle::NotAnAngle;
-    }
-    Angle::Hundredths(signs::signed(digits::is_below(text), size))
 }
 
 // The text of an angle; none, if the value is out of range.
-pub fn write(hundredths: i32) -> Written
+pub fn write(hundredths: i32) -> Option<Written>
     ensures { result ≡ written_of hundredths }
 {
-    let mut bytes = [0u8; 7];
-    let size = signs::size(hundredths);
+    let size = hundredths.unsigned_abs();
     if LIMIT < size {
-        return Written {
-            bytes: bytes,
-            length: 0,
-        };
+        return None;
     }
+    let mut bytes = [0u8; 7];
     let length = text::text(&mut bytes, hundredths < 0, size as usize);
-    Written {
-        bytes: bytes,
-        length: length,
-    }
+    Some(Written { bytes, length })
 }

@@ -1,20 +1,21 @@
 -- Planning, a run and a scan on a store in a caller's block: they are the calls on the block's store, or, where the block is none, on a store that counts
 -- 65, which 15 refuses after 12 and 14. Assumes nothing.
-use mathlib.Core.Path.{◌≡◌, refl, sym, ap}
-use mathlib.Core.Bool.{Bool, false}
+use mathlib.Core.Path.{◌≡◌, refl, sym, ap, ◌∙◌}
+use mathlib.Core.Bool.{Bool, false, cond}
 use mathlib.Core.List.{List}
-use Prim.Native.Nat.{ℕ, suc}
-use borrow.Author.Tests.{eq-eqb, ne_eqb}
+use Prim.Native.Nat.{ℕ}
+use borrow.Author.Tests.{eq-eqb}
 use lib.Dec.{eqb, ltb}
-use lib.ListN.{length, replicate}
+use lib.ListN.{length}
 use Rattle.lists.proofs.Bools.{Is, yes-is, no-is, is}
 use Rattle.graph_rules.specs.Graph.{graph_from, graph_fits}
-use Rattle.readings.specs.declared.read.Read.{Read}
-use Rattle.readings.specs.declared.read.Read.TheVariants.{Refused}
-use Rattle.classes.specs.Classes.{Class}
+use Rattle.std.specs.Prelude.{Err}
+use Rattle.refusals.specs.Refusals.{numbered}
+use Rattle.refusals.specs.declared.Refusal.{Refusal}
+use Rattle.refusals.specs.declared.Refusal.TheVariants.{GraphForm, PlanOrOffset, Store}
 use Rattle.mask_store.specs.declared.MaskStore.{MaskStore}
-use Rattle.mask_store.specs.Layout.{store_size, most_masks}
-use Rattle.mask_store.specs.Masks.{store_of, allowed, takes}
+use Rattle.mask_store.specs.Layout.{store_size}
+use Rattle.mask_store.specs.Masks.{store_of, takes}
 use Rattle.mask_store.proofs.Growth.{grown-size}
 use Rattle.mask_store.proofs.Several.{takes-few}
 use Rattle.plan_rules.proofs.OwnStore.{needs-whole}
@@ -26,6 +27,7 @@ use Rattle.planning.specs.Plan.{PlanCall, plan_report, no_plan, plan_call}
 use Rattle.scans.specs.Scan.{past}
 use Rattle.plans.specs.Run.{plan_refusal, run_refusal, run_call, planned_refusal, planned_list}
 use Rattle.capi.specs.Stores.{is_store, store_in}
+use Rattle.capi.proofs.HeldStores.{none, none-takes}
 use Rattle.capi.specs.Plans.{no_store, no_store_scan, plan_in, run_in, list_in}
 
 -- ---- the store that planning leaves
@@ -38,13 +40,6 @@ plan-size graph plan s e = go (plan_call base graph plan s).planning.store (left
     go after (has-grown f t) = grown-size s (needs base (graph_from graph)) e (needs-whole base graph f) (takes-few s (needs base (graph_from graph)) t)
 
 -- ---- the store that stands for a block that is none
-
-abbrev none : MaskStore
-none = store_of (replicate store_size 0) (suc most_masks)
-
-none-takes : (cs : List Class) → takes none cs ≡ false
-unfolding takes allowed
-none-takes cs = refl
 
 module _ (graph plan : List ℕ) where
   abbrev short : Bool
@@ -59,41 +54,32 @@ module _ (graph plan : List ℕ) where
       go (yes-is f) (yes-is s) = rw (f, s)
       go (yes-is f) (no-is s) = rw (f, s, none-takes (needs base (graph_from graph)))
 
-  none-refused : run_refusal base graph plan none ≡ no_store graph plan
-  unfolding run_refusal plan_refusal no_store
-  none-refused = rw (none-takes (needs base (graph_from graph)))
-
-  refuses : eqb (no_store graph plan) 0 ≡ false
-  unfolding no_store
-  refuses = go (is (graph_fits graph)) (is short)
+  none-run : (text : List ℕ) → run_call base graph plan none text ≡ Err (no_store graph plan)
+  unfolding run_call run_refusal plan_refusal no_store
+  none-run text = go (is (graph_fits graph)) (is short)
     where
-      go : Is (graph_fits graph) → Is short → eqb (no_store graph plan) 0 ≡ false
+      go : Is (graph_fits graph) → Is short → run_call base graph plan none text ≡ Err (no_store graph plan)
       go (no-is f) s = rw f
       go (yes-is f) (yes-is s) = rw (f, s)
-      go (yes-is f) (no-is s) = rw (f, s)
+      go (yes-is f) (no-is s) = rw (f, s, none-takes (needs base (graph_from graph)))
 
-  none-run : (text : List ℕ) → run_call base graph plan none text ≡ Refused (no_store graph plan)
-  unfolding run_call
-  none-run text = rw (none-refused, refuses, run_call) (ap {B = Read} Refused none-refused)
-
-  module _ (text : List ℕ) (scan : Scan) where
-    none-refused-scan : planned_refusal base graph plan none text scan ≡ no_store_scan graph plan text scan
-    unfolding planned_refusal plan_refusal no_store_scan
-    none-refused-scan = rw (none-takes (needs base (graph_from graph)))
-
-    refuses-scan : eqb (no_store_scan graph plan text scan) 0 ≡ false
-    unfolding no_store_scan
-    refuses-scan = go (is (graph_fits graph)) (is (past text scan.place)) (is short)
-      where
-        go : Is (graph_fits graph) → Is (past text scan.place) → Is short → eqb (no_store_scan graph plan text scan) 0 ≡ false
-        go (no-is f) p s = rw f
-        go (yes-is f) (yes-is p) s = rw (f, p)
-        go (yes-is f) (no-is p) (yes-is s) = rw (f, p, s)
-        go (yes-is f) (no-is p) (no-is s) = rw (f, p, s)
-
-    none_list : (buffer : List ℕ) → planned_list base graph plan none text scan buffer ≡ no_list (no_store_scan graph plan text scan) scan buffer
+  module _ (text : List ℕ) (scan : Scan) (buffer : List ℕ) where
+    -- where the call on that store is refused by n, which is the refusal beside a block that is none
+    none-by : (n : ℕ) (r : Refusal) → eqb n 0 ≡ false → numbered n ≡ r → planned_refusal base graph plan none text scan ≡ n → no_store_scan graph plan text scan ≡ r
+        → planned_list base graph plan none text scan buffer ≡ no_list (no_store_scan graph plan text scan) scan buffer
     unfolding planned_list
-    none_list buffer = rw (none-refused-scan, refuses-scan, planned_list) (ap {B = ScanList} (λ (n : ℕ). no_list n scan buffer) none-refused-scan)
+    none-by n r z q e s = rw (s, e, z, planned_list) (ap {B = ScanList} (λ (x : Refusal). no_list x scan buffer) (ap numbered e ∙ q))
+
+    none_list : planned_list base graph plan none text scan buffer ≡ no_list (no_store_scan graph plan text scan) scan buffer
+    unfolding planned_refusal plan_refusal no_store_scan
+    none_list = go (is (graph_fits graph)) (is (past text scan.place)) (is short)
+      where
+        go : Is (graph_fits graph) → Is (past text scan.place) → Is short
+            → planned_list base graph plan none text scan buffer ≡ no_list (no_store_scan graph plan text scan) scan buffer
+        go (no-is f) p s = none-by 12 GraphForm refl refl (rw f) (rw f)
+        go (yes-is f) (yes-is p) s = none-by 14 PlanOrOffset refl refl (rw (f, p)) (rw (f, p))
+        go (yes-is f) (no-is p) (yes-is s) = none-by 14 PlanOrOffset refl refl (rw (f, p, s)) (rw (f, p, s))
+        go (yes-is f) (no-is p) (no-is s) = none-by 15 Store refl refl (rw (f, p, s, none-takes (needs base (graph_from graph)))) (rw (f, p, s))
 
 -- ---- a call on a block is the call on its store
 
@@ -115,17 +101,41 @@ module _ (graph plan tables : List ℕ) (count : ℕ) where
       go (yes-is q) = rw q
       go (no-is q) = rw q (sym (none_list graph plan text scan buffer))
 
-  -- ---- `plan`: where the block is none, it is left with its count
+  -- ---- `plan`: the answer and the buffer; where the block is none, it is left with its count
 
-  pub plan-in : length tables ≡ store_size → plan_in graph plan tables count ≡ plan_call base graph plan (store_in tables count)
+  pub plan-answer : (plan_call base graph plan (store_in tables count)).planning.answer ≡ (plan_in graph plan tables count).planning.answer
   unfolding plan_in store_in
-  plan-in e = rw (eq-eqb (length tables) store_size e)
+  plan-answer = go (is (is_store tables))
+    where
+      go : Is (is_store tables) → (plan_call base graph plan (store_in tables count)).planning.answer ≡ (plan_in graph plan tables count).planning.answer
+      go (yes-is q) = rw q
+      go (no-is q) = rw (q, none-plan graph plan)
 
-  pub plan-in-none : (length tables ≡ store_size → ⊥)
-      → plan_in graph plan tables count
-      ≡ record { planning = record { answer = (plan_call base graph plan (store_in tables count)).planning.answer; store = store_of tables count }; buffer = (plan_call base graph plan (store_in tables count)).buffer }
+  pub plan-buffer : (plan_call base graph plan (store_in tables count)).buffer ≡ (plan_in graph plan tables count).buffer
   unfolding plan_in store_in
-  plan-in-none n = rw (ne_eqb (length tables) store_size n, none-plan graph plan)
+  plan-buffer = go (is (is_store tables))
+    where
+      go : Is (is_store tables) → (plan_call base graph plan (store_in tables count)).buffer ≡ (plan_in graph plan tables count).buffer
+      go (yes-is q) = rw q
+      go (no-is q) = rw (q, none-plan graph plan)
+
+  pub plan-tables : cond (is_store tables) (plan_call base graph plan (store_in tables count)).planning.store.tables tables ≡ (plan_in graph plan tables count).planning.store.tables
+  unfolding plan_in store_in
+  plan-tables = go (is (is_store tables))
+    where
+      go : Is (is_store tables)
+          → cond (is_store tables) (plan_call base graph plan (store_in tables count)).planning.store.tables tables ≡ (plan_in graph plan tables count).planning.store.tables
+      go (yes-is q) = rw q
+      go (no-is q) = rw q
+
+  pub plan-count : cond (is_store tables) (plan_call base graph plan (store_in tables count)).planning.store.count count ≡ (plan_in graph plan tables count).planning.store.count
+  unfolding plan_in store_in
+  plan-count = go (is (is_store tables))
+    where
+      go : Is (is_store tables)
+          → cond (is_store tables) (plan_call base graph plan (store_in tables count)).planning.store.count count ≡ (plan_in graph plan tables count).planning.store.count
+      go (yes-is q) = rw q
+      go (no-is q) = rw q
 
   -- the tables of a store keep their length
   pub plan-in-size : length tables ≡ store_size → length (plan_call base graph plan (store_in tables count)).planning.store.tables ≡ store_size

@@ -1,4 +1,6 @@
 pub mod ScanNumbers
 pub mod Blocks
+pub mod Columns
 pub mod HeldStores
 pub mod HeldPlans
+pub mod Texts

@@ -6,18 +6,17 @@ use Prim.Native.Nat.{ℕ, ◌/◌, ◌<◌}
 use native.Mathlib.Omega.{arith}
 use borrow.Author.Tests.{eqb-true, ne_eqb}
 use lib.Dec.{eqb, ltb}
-use lib.ListN.{length, drop}
+use lib.ListN.{length}
 use Rattle.lists.specs.Report.{Report}
 use Rattle.lists.proofs.Bools.{Is, yes-is, no-is, is}
 use Rattle.graph_rules.specs.Graph.{Graph, graph_fits, graph_from}
 use Rattle.scans.specs.declared.scan.Place.{Place}
 use Rattle.scans.specs.declared.scan.Place.TheVariants.{Reading, Ended}
 use Rattle.scans.specs.declared.scan.Scan.{Scan}
-use Rattle.scans.specs.declared.scan.NextAnswer.{NextAnswer}
-use Rattle.scans.specs.declared.scan.NextAnswer.TheVariants.{Token, Gap, Ended as AtEnd, Refused}
-use Rattle.scans.specs.declared.scan.Entry.{Entry}
-use Rattle.graph_rules.specs.Read.{read_graph}
-use Rattle.scans.specs.Scan.{reading_at, has_ended, scan_report, entry_of, scanned_by, scan_from, scan_at, scan_of as scannedOf, next}
+use Rattle.std.specs.Prelude.{Option, Result, Ok, Err}
+use Rattle.refusals.specs.declared.Refusal.{Refusal}
+use Rattle.scans.specs.declared.scan.Piece.{Piece}
+use Rattle.scans.specs.Scan.{reading_at, has_ended, scan_report, scan_from, scan_at, scan_of as scannedOf, next}
 use Rattle.mask_store.specs.declared.MaskStore.{MaskStore}
 use Rattle.plan_rules.specs.Plan.{base}
 use Rattle.scans.specs.List.{entry_size, Listing, ScanList, list_for, list_report, unless_refused, scan_list}
@@ -51,19 +50,12 @@ ended-back = refl
 abbrev Refuses : Report → Type 0
 Refuses t = t.refusal ≡ 0 → ⊥
 
-entry-answers : (offset : ℕ) (e : Entry) → (scan_report (scanned_by offset e).answer).refusal ≡ 0
-entry-answers offset e = go (is e.token)
-  where
-    go : Is e.token → (scan_report (scanned_by offset e).answer).refusal ≡ 0
-    go (yes-is q) = rw q
-    go (no-is q) = rw q
-
 from-answers : (g : Graph) (text : List ℕ) (offset : ℕ) → (scan_report (scan_from g text offset).answer).refusal ≡ 0
 from-answers g text offset = go (is (eqb offset (length text)))
   where
     go : Is (eqb offset (length text)) → (scan_report (scan_from g text offset).answer).refusal ≡ 0
     go (yes-is q) = rw (q, scan_from)
-    go (no-is q) = rw (q, scan_from) (entry-answers offset (entry_of text offset (read_graph g (drop offset text))))
+    go (no-is q) = rw (q, scan_from)
 
 place-keeps : (g : Graph) (text : List ℕ) (p : Place) → Refuses (scan_report (scan_at g text p).answer) → (scan_at g text p).scan ≡ record { place = p }
 place-keeps g text Ended refused = refl
@@ -85,11 +77,9 @@ list-keeps : (graph text buffer : List ℕ) (s : Scan) → Refuses (list_report 
 unfolding scan_list
 list-keeps graph text buffer s refused = go (is (graph_fits graph))
   where
-    told : (a : NextAnswer) (l : Listing) → Refuses (list_report (unless_refused a s buffer l).listed.answer) → (unless_refused a s buffer l).listed.scan ≡ s
-    told (Token leaf start end) l r = absurd (r refl)
-    told (Gap start end) l r = absurd (r refl)
-    told AtEnd l r = absurd (r refl)
-    told (Refused n) l r = refl
+    told : (a : Result (Option Piece) Refusal) (l : Listing) → Refuses (list_report (unless_refused a s buffer l).listed.answer) → (unless_refused a s buffer l).listed.scan ≡ s
+    told (Ok a) l r = absurd (r refl)
+    told (Err n) l r = refl
 
     go : Is (graph_fits graph) → (scan_list graph text s buffer).listed.scan ≡ s
     go (yes-is q) = rw (q, scan_list) (told (scannedOf (graph_from graph) text s).answer (list_for (graph_from graph) text (length buffer / entry_size) s) (rw (q, scan_list) at refused))

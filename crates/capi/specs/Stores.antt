@@ -1,6 +1,8 @@
 -- A mask store that a caller holds as a block, its eight tables of 256 bytes one after another, and a count. Definitions only.
-use Rattle.std.specs.Prelude.{Bool, cond, List, [], ℕ, ◌/◌, ◌%◌, eqb, length, get_or, replicate}
+use Rattle.std.specs.Prelude.{Bool, cond, List, [], ℕ, ◌/◌, ◌%◌, eqb, length, get_or, replicate, Ok, Err}
 use Rattle.lists.specs.Lists.{tab}
+use Rattle.refusals.specs.Refusals.{number}
+use Rattle.refusals.specs.declared.Refusal.TheVariants.{Store}
 use Rattle.classes.specs.Classes.{Class}
 use Rattle.mask_store.specs.declared.MaskStore.{MaskStore}
 use Rattle.mask_store.specs.declared.Added.{Added}
@@ -30,15 +32,12 @@ unfoldable pub flat : List (List ℕ) → List ℕ
 flat luts = tab 0 2048 (flat_at luts)
 
 unfoldable pub rendered : List ℕ → ℕ → Rendered
-rendered tables count =
-    cond (is_store tables)
-    (render (store_of tables count))
-    (record { refusal = 15; tables = replicate 8 (replicate 256 0) })
+rendered tables count = cond (is_store tables) (render (store_of tables count)) (Err Store)
 
 -- the tables are handed out in a block
+abbrev pub handed : Rendered → List ℕ → Put
+handed (Ok luts) block = put (flat luts) block
+handed (Err refusal) block = record { refusal = number refusal; block = block }
+
 unfoldable pub render_to : List ℕ → ℕ → List ℕ → Put
-render_to tables count block =
-    let r = rendered tables count in
-    cond (eqb r.refusal 0)
-    (put (flat r.tables) block)
-    (record { refusal = r.refusal; block = block })
+render_to tables count block = handed (rendered tables count) block

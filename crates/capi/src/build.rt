@@ -1,32 +1,15 @@
 // The build of a table's graph, and the conflicts that it finds.
 ghost use Rattle.std.specs.Prelude.{◌≡◌, [], ◌∷◌};
-ghost use Rattle.graph.specs.New.{built_report, new_of, image_of};
+ghost use Rattle.graph.specs.New.{count_values, built_report, new_of, image_of};
 
-use graph::new::BuildAnswer;
+use crate::told::{Numbers, Report, told};
+use graph::new::Counts;
 
-// The answer of a build, stored.
-fn store(
-    answer: BuildAnswer,
-    states: &mut usize,
-    root: &mut usize,
-    count: &mut usize,
-    words: &mut usize,
-) -> u8
-    ensures { built_report answer ≡ record { refusal = result; values = states.new ∷ root.new ∷ count.new ∷ words.new ∷ [] } }
-{
-    *states = 0;
-    *root = 0;
-    *count = 0;
-    *words = 0;
-    match answer {
-        BuildAnswer::Built(counts) => {
-            *states = counts.states;
-            *root = counts.root;
-            *count = counts.errors;
-            *words = counts.words;
-            0
-        }
-        BuildAnswer::Refused(n) => n,
+impl Numbers<4> for Counts {
+    ghost numbers = { count_values };
+
+    fn numbers(self) -> [usize; 4] {
+        [self.states, self.root, self.errors, self.words]
     }
 }
 
@@ -45,11 +28,12 @@ pub extern "C" fn balthwyr_build(
     ensures graph_after { graph.new ≡ (new_of table.now graph.old errors.old).graph }
     ensures errors_after { errors.new ≡ (new_of table.now graph.old errors.old).errors }
 {
-    let answer = graph::new::new(table, graph, errors);
-    store(answer, states, root, count, words)
+    let told: Report<4> = told(graph::new::new(table, graph, errors));
+    [*states, *root, *count, *words] = told.values;
+    told.refusal
 }
 
-// `from_image`: the same of a table's image.
+// `from_image`: the same of a table's image. (For C each is a function of its own.)
 #[unsafe(no_mangle)]
 pub extern "C" fn balthwyr_build_image(
     image: &[u8],
@@ -64,6 +48,7 @@ pub extern "C" fn balthwyr_build_image(
     ensures graph_after { graph.new ≡ (image_of image.now graph.old errors.old).graph }
     ensures errors_after { errors.new ≡ (image_of image.now graph.old errors.old).errors }
 {
-    let answer = graph::image::from_image(image, graph, errors);
-    store(answer, states, root, count, words)
+    let told: Report<4> = told(graph::image::from_image(image, graph, errors));
+    [*states, *root, *count, *words] = told.values;
+    told.refusal
 }

@@ -1,17 +1,12 @@
 // What is read from lent bytes, and written to them.
-ghost use Rattle.std.specs.Prelude.{◌≡◌, [], ◌∷◌, ◌+◌, ◌≤◌, length};
-ghost use Rattle.std.proofs.lemmas.List.Edits.{sets};
+ghost use Rattle.std.specs.Prelude.{◌≡◌, [], ◌∷◌};
 ghost use Rattle.capi.specs.Lent.{is_flag, flags_of, put, put_report};
 
 // Whether entry b is there and not 0.
 fn is_flag(flags: &[u8], b: usize) -> bool
     ensures { result ≡ is_flag flags.now b }
 {
-    if b < flags.len() {
-        flags[b] != 0
-    } else {
-        false
-    }
+    flags.get(b).copied().unwrap_or(0) != 0
 }
 
 // The class of lent bytes.
@@ -19,30 +14,20 @@ pub(crate) fn flags_of(flags: &[u8]) -> [bool; 256]
     ensures { result ≡ flags_of flags.now }
 {
     let mut class = [false; 256];
-    for b in 0..256 {
-        class[b] = is_flag(flags, b);
+    for (b, flag) in class.iter_mut().enumerate() {
+        *flag = is_flag(flags, b);
     }
     class
 }
 
-// The bytes written from a place on.
-pub(crate) fn write(bytes: &[u8], out: &mut [u8], at: usize)
-    requires { at + length bytes.now ≤ length out.old }
-    ensures { out.new ≡ sets out.old at bytes.now }
-{
-    for i in 0..bytes.len() {
-        out[at + i] = bytes[i];
-    }
-}
-
-// The bytes handed out in a lent block, or 255, and the block unchanged.
+// The bytes handed out in a lent block, or 255, and the block unchanged. (A number: 255 is of the C interface alone, and no refusal has it.)
 pub(crate) fn put(bytes: &[u8], block: &mut [u8]) -> u8
     ensures { (result ≡ (put bytes.now block.old).refusal) × (block.new ≡ (put bytes.now block.old).block) }
 {
     if block.len() < bytes.len() {
         return 255;
     }
-    write(bytes, block, 0);
+    block[..bytes.len()].copy_from_slice(bytes);
     0
 }
 
@@ -52,10 +37,6 @@ pub(crate) fn put_counted(bytes: &[u8], n: usize, block: &mut [u8], count: &mut 
     ensures block_after { block.new ≡ (put bytes.now block.old).block }
 {
     let refusal = put(bytes, block);
-    if refusal == 0 {
-        *count = n;
-    } else {
-        *count = 0;
-    }
+    *count = if refusal == 0 { n } else { 0 };
     refusal
 }

@@ -1,51 +1,39 @@
 // The mask store, which is held by the caller as a block of 2,048 bytes, the eight tables one after another, and a count.
-ghost use Rattle.std.specs.Prelude.{◌≡◌, [], ◌∷◌, length};
-ghost use Rattle.mask_store.specs.Masks.{store_of, add_report};
+ghost use Rattle.std.specs.Prelude.{◌≡◌, cond, [], ◌∷◌};
+ghost use Rattle.mask_store.specs.Masks.{add_report};
 ghost use Rattle.capi.specs.Lent.{flags_of};
-ghost use Rattle.capi.specs.Stores.{store_in, add_to, flat, render_to};
+ghost use Rattle.capi.specs.Stores.{is_store, store_in, add_to, flat, render_to};
 
-use mask_store::{AddAnswer, MASKS, MaskStore, SIZE, TABLE_SIZE, TABLES};
+use crate::told::{Report, told};
+use mask_store::{MASKS, MaskStore, SIZE, TABLE_SIZE, TABLES};
 
-// A count that 15 refuses.
+// A count that 15 refuses. A block that is no store is lent as one that is refused, and not refused here, since a call may have to answer 12 or 14 first.
 const TOO_MANY: usize = MASKS + 1;
-
-// The store of a block that has its length.
-fn store_of(tables: &[u8], count: usize) -> MaskStore
-    requires { length tables.now ≡ 2048 }
-    ensures { result ≡ store_of tables.now count }
-{
-    let mut held = [0u8; SIZE];
-    crate::lent::write(tables, &mut held, 0);
-    MaskStore {
-        tables: held,
-        count: count,
-    }
-}
 
 // The store of a block; one that 15 refuses, since it counts over 64, for a block of another length.
 pub(crate) fn store_in(tables: &[u8], count: usize) -> MaskStore
     ensures { result ≡ store_in tables.now count }
 {
-    if tables.len() != SIZE {
-        return MaskStore {
-            tables: [0u8; SIZE],
+    match tables.as_array::<SIZE>() {
+        Some(tables) => MaskStore {
+            tables: *tables,
+            count,
+        },
+        None => MaskStore {
+            tables: [0; SIZE],
             count: TOO_MANY,
-        };
+        },
     }
-    store_of(tables, count)
 }
 
-// The answer to an added class, stored.
-fn store_number(answer: AddAnswer, number: &mut usize) -> u8
-    ensures { add_report answer ≡ record { refusal = result; values = number.new ∷ [] } }
+// A store back in the block that it came from; a block that is no store is left, and so is its count.
+pub(crate) fn keep(store: MaskStore, tables: &mut [u8], count: &mut usize)
+    ensures tables_after { tables.new ≡ cond (is_store tables.old) store.tables tables.old }
+    ensures count_after { count.new ≡ cond (is_store tables.old) store.count count.old }
 {
-    *number = 0;
-    match answer {
-        AddAnswer::Number(i) => {
-            *number = i;
-            0
-        }
-        AddAnswer::Refused(n) => n,
+    if tables.len() == SIZE {
+        tables.copy_from_slice(&store.tables);
+        *count = store.count;
     }
 }
 
@@ -61,26 +49,20 @@ pub extern "C" fn balthwyr_add_test_to_lut(
     ensures tables_after { tables.new ≡ (add_to tables.old count.old (flags_of flags.now)).store.tables }
     ensures count_after { count.new ≡ (add_to tables.old count.old (flags_of flags.now)).store.count }
 {
-    if tables.len() != SIZE {
-        *number = 0;
-        return 15;
-    }
-    let added = mask_store::add_by_loan(store_of(tables, *count), crate::lent::flags_of(flags));
-    let answer = added.answer;
-    let grown = added.store;
-    let bytes = grown.tables;
-    crate::lent::write(&bytes, tables, 0);
-    *count = grown.count;
-    store_number(answer, number)
+    let added = mask_store::add_by_loan(store_in(tables, *count), crate::lent::flags_of(flags));
+    keep(added.store, tables, count);
+    let told: Report<1> = told(added.answer);
+    [*number] = told.values;
+    told.refusal
 }
 
 // The eight tables one after another.
 fn flat(luts: [[u8; TABLE_SIZE]; TABLES]) -> [u8; SIZE]
     ensures { result ≡ flat luts }
 {
-    let mut bytes = [0u8; SIZE];
-    for i in 0..SIZE {
-        bytes[i] = luts[i / TABLE_SIZE][i % TABLE_SIZE];
+    let mut bytes = [0; SIZE];
+    for (i, byte) in bytes.iter_mut().enumerate() {
+        *byte = luts[i / TABLE_SIZE][i % TABLE_SIZE];
     }
     bytes
 }
@@ -90,14 +72,8 @@ fn flat(luts: [[u8; TABLE_SIZE]; TABLES]) -> [u8; SIZE]
 pub extern "C" fn balthwyr_render_luts(tables: &[u8], count: usize, luts: &mut [u8]) -> u8
     ensures { (result ≡ (render_to tables.now count luts.old).refusal) × (luts.new ≡ (render_to tables.now count luts.old).block) }
 {
-    if tables.len() != SIZE {
-        return 15;
+    match mask_store::render_luts(store_in(tables, count)) {
+        Ok(rendered) => crate::lent::put(&flat(rendered), luts),
+        Err(refusal) => u8::from(refusal),
     }
-    let mut refusal: u8 = 0;
-    let rendered = mask_store::render_luts(store_of(tables, count), &mut refusal);
-    if refusal != 0 {
-        return refusal;
-    }
-    let bytes = flat(rendered);
-    crate::lent::put(&bytes, luts)
 }

@@ -1,26 +1,19 @@
 // The readings of a text.
 ghost use Rattle.std.specs.Prelude.{◌≡◌, [], ◌∷◌};
-ghost use Rattle.readings.specs.Answers.{read_report, graph_read, table_read};
+ghost use Rattle.readings.specs.Answers.{found_values, read_report, graph_read, table_read};
 ghost use Rattle.capi.specs.Plans.{run_in};
 
-use graph::read::Read;
+use crate::told::{Numbers, Report, told};
+use graph_rules::Found;
 
-// A reading, stored.
-fn store(answer: Read, found: &mut usize, leaf: &mut usize, end: &mut usize) -> u8
-    ensures { read_report answer ≡ record { refusal = result; values = found.new ∷ leaf.new ∷ end.new ∷ [] } }
-{
-    *found = 0;
-    *leaf = 0;
-    *end = 0;
-    match answer {
-        Read::Found(l, e) => {
-            *found = 1;
-            *leaf = l;
-            *end = e;
-            0
+impl Numbers<3> for Option<Found> {
+    ghost numbers = { found_values };
+
+    fn numbers(self) -> [usize; 3] {
+        match self {
+            Some(found) => [1, found.leaf, found.end],
+            None => [0, 0, 0],
         }
-        Read::Nothing => 0,
-        Read::Refused(n) => n,
     }
 }
 
@@ -35,7 +28,9 @@ pub extern "C" fn balthwyr_read_graph(
 ) -> u8
     ensures { read_report (graph_read graph.now text.now) ≡ record { refusal = result; values = found.new ∷ leaf.new ∷ end.new ∷ [] } }
 {
-    store(graph::read::read_graph(graph, text), found, leaf, end)
+    let told: Report<3> = told(readings::read::read_graph(graph, text));
+    [*found, *leaf, *end] = told.values;
+    told.refusal
 }
 
 // `read_table`.
@@ -49,7 +44,9 @@ pub extern "C" fn balthwyr_read_table(
 ) -> u8
     ensures { read_report (table_read table.now text.now) ≡ record { refusal = result; values = found.new ∷ leaf.new ∷ end.new ∷ [] } }
 {
-    store(graph::read_table::read_table(table, text), found, leaf, end)
+    let told: Report<3> = told(readings::read_table::read_table(table, text));
+    [*found, *leaf, *end] = told.values;
+    told.refusal
 }
 
 // `run`: the reading of a text by graph words, plan words and a store.
@@ -67,5 +64,7 @@ pub extern "C" fn balthwyr_run(
     ensures { read_report (run_in graph.now plan.now tables.now count text.now) ≡ record { refusal = result; values = found.new ∷ leaf.new ∷ end.new ∷ [] } }
 {
     let held = crate::masks::store_in(tables, count);
-    store(plans::run::run(graph, plan, held, text), found, leaf, end)
+    let told: Report<3> = told(plans::run::run(graph, plan, held, text));
+    [*found, *leaf, *end] = told.values;
+    told.refusal
 }

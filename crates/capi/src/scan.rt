@@ -1,26 +1,26 @@
 // The scan, which is held by the caller as one number.
 ghost use Rattle.std.specs.Prelude.{◌≡◌, [], ◌∷◌};
-ghost use Rattle.scans.specs.Scan.{scan_report, next};
+ghost use Rattle.scans.specs.Scan.{piece_values, scan_report, next};
 ghost use Rattle.scans.specs.List.{list_report, scan_list};
 ghost use Rattle.capi.specs.Plans.{list_in};
 ghost use Rattle.capi.specs.Scans.{scan_of, number_of};
 
-use plans::list::ListAnswer;
-use plans::scan::{NextAnswer, Place, Scan};
+use crate::told::{Numbers, Report, told};
+use scans::scan::{Piece, Place, Scan};
 
-const ENDED: usize = 18446744073709551615;
+// The number of a scan that has ended (C holds a scan as one `size_t`).
+const ENDED: usize = usize::MAX;
 
 // The scan of a number.
 fn scan_of(number: usize) -> Scan
     ensures { result ≡ scan_of number }
 {
-    if number == ENDED {
-        return Scan {
-            place: Place::Ended,
-        };
-    }
     Scan {
-        place: Place::Reading(number),
+        place: if number == ENDED {
+            Place::Ended
+        } else {
+            Place::Reading(number)
+        },
     }
 }
 
@@ -28,43 +28,21 @@ fn scan_of(number: usize) -> Scan
 fn number_of(scan: Scan) -> usize
     ensures { result ≡ number_of scan }
 {
-    let place = scan.place;
-    match place {
+    match scan.place {
         Place::Reading(at) => at,
         Place::Ended => ENDED,
     }
 }
 
-// An answer of the scan, stored.
-fn store(
-    answer: NextAnswer,
-    kind: &mut usize,
-    leaf: &mut usize,
-    start: &mut usize,
-    end: &mut usize,
-) -> u8
-    ensures { scan_report answer ≡ record { refusal = result; values = kind.new ∷ leaf.new ∷ start.new ∷ end.new ∷ [] } }
-{
-    *kind = 0;
-    *leaf = 0;
-    *start = 0;
-    *end = 0;
-    match answer {
-        NextAnswer::Token(l, s, e) => {
-            *kind = 1;
-            *leaf = l;
-            *start = s;
-            *end = e;
-            0
+impl Numbers<4> for Option<Piece> {
+    ghost numbers = { piece_values };
+
+    fn numbers(self) -> [usize; 4] {
+        match self {
+            Some(Piece::Token { leaf, start, end }) => [1, leaf, start, end],
+            Some(Piece::Gap { start, end }) => [2, 0, start, end],
+            None => [0; 4],
         }
-        NextAnswer::Gap(s, e) => {
-            *kind = 2;
-            *start = s;
-            *end = e;
-            0
-        }
-        NextAnswer::Ended => 0,
-        NextAnswer::Refused(n) => n,
     }
 }
 
@@ -83,23 +61,10 @@ pub extern "C" fn balthwyr_scan_next(
     ensures scan_after { scan.new ≡ number_of (next graph.now text.now (scan_of scan.old)).scan }
 {
     let scanned = scan_of(*scan).next(graph, text);
-    let answer = scanned.answer;
     *scan = number_of(scanned.scan);
-    store(answer, kind, leaf, start, end)
-}
-
-// The answer of a list, stored.
-fn store_list(answer: ListAnswer, entries: &mut usize) -> u8
-    ensures { list_report answer ≡ record { refusal = result; values = entries.new ∷ [] } }
-{
-    *entries = 0;
-    match answer {
-        ListAnswer::Listed(n) => {
-            *entries = n;
-            0
-        }
-        ListAnswer::Refused(n) => n,
-    }
+    let told: Report<4> = told(scanned.answer);
+    [*kind, *leaf, *start, *end] = told.values;
+    told.refusal
 }
 
 // `scan_list`: as many entries as there is room for, three words an entry.
@@ -115,10 +80,11 @@ pub extern "C" fn balthwyr_scan_list(
     ensures scan_after { scan.new ≡ number_of (scan_list graph.now text.now (scan_of scan.old) out.old).listed.scan }
     ensures out_after { out.new ≡ (scan_list graph.now text.now (scan_of scan.old) out.old).buffer }
 {
-    let listed = plans::list::scan_list(scan_of(*scan), graph, text, out);
-    let answer = listed.answer;
+    let listed = scans::list::scan_list(scan_of(*scan), graph, text, out);
     *scan = number_of(listed.scan);
-    store_list(answer, entries)
+    let told: Report<1> = told(listed.answer);
+    [*entries] = told.values;
+    told.refusal
 }
 
 // `scan_planned`: what `scan_list` answers, by a plan and a store.
@@ -139,7 +105,8 @@ pub extern "C" fn balthwyr_scan_planned(
 {
     let held = crate::masks::store_in(tables, count);
     let listed = plans::planned::scan_planned(scan_of(*scan), graph, plan, held, text, out);
-    let answer = listed.answer;
     *scan = number_of(listed.scan);
-    store_list(answer, entries)
+    let told: Report<1> = told(listed.answer);
+    [*entries] = told.values;
+    told.refusal
 }

@@ -2,21 +2,7 @@
 ghost use Rattle.std.specs.Prelude.{◌≡◌, [], ◌∷◌};
 ghost use Rattle.display.specs.Answers.{shown_report, display_call, line_call};
 
-use display::Shown;
-
-// How long a text is, stored.
-fn store(answer: Shown, length: &mut usize) -> u8
-    ensures { shown_report answer ≡ record { refusal = result; values = length.new ∷ [] } }
-{
-    *length = 0;
-    match answer {
-        Shown::Bytes(n) => {
-            *length = n;
-            0
-        }
-        Shown::Refused(n) => n,
-    }
-}
+use crate::told::{Report, told};
 
 // `display`.
 #[unsafe(no_mangle)]
@@ -24,8 +10,9 @@ pub extern "C" fn balthwyr_display(graph: &[u16], out: &mut [u8], length: &mut u
     ensures out_value { shown_report (display_call graph.now out.old).answer ≡ record { refusal = result; values = length.new ∷ [] } }
     ensures out_after { out.new ≡ (display_call graph.now out.old).buffer }
 {
-    let answer = display::display(graph, out);
-    store(answer, length)
+    let told: Report<1> = told(display::display(graph, out));
+    [*length] = told.values;
+    told.refusal
 }
 
 // `error_line`.
@@ -34,6 +21,7 @@ pub extern "C" fn balthwyr_error_line(errors: &[u16], out: &mut [u8], length: &m
     ensures out_value { shown_report (line_call errors.now out.old).answer ≡ record { refusal = result; values = length.new ∷ [] } }
     ensures out_after { out.new ≡ (line_call errors.now out.old).buffer }
 {
-    let answer = display::error_line(errors, out);
-    store(answer, length)
+    let told: Report<1> = told(display::error_line(errors, out));
+    [*length] = told.values;
+    told.refusal
 }

@@ -1,23 +1,18 @@
 // Whether a table is clean.
 ghost use Rattle.std.specs.Prelude.{◌≡◌, [], ◌∷◌};
-ghost use Rattle.clean.specs.Answers.{clean_report, clean_of};
+ghost use Rattle.clean.specs.Answers.{breach_values, clean_report, clean_of};
 
-use clean::Verdict;
+use crate::told::{Numbers, Report, told};
+use graph_rules::Breach;
 
-// A verdict, stored.
-fn store(answer: Verdict, rule: &mut usize, state: &mut usize) -> u8
-    ensures { clean_report answer ≡ record { refusal = result; values = rule.new ∷ state.new ∷ [] } }
-{
-    *rule = 0;
-    *state = 0;
-    match answer {
-        Verdict::Clean => 0,
-        Verdict::Breaks(k, s) => {
-            *rule = k as usize;
-            *state = s as usize;
-            0
+impl Numbers<2> for Option<Breach> {
+    ghost numbers = { breach_values };
+
+    fn numbers(self) -> [usize; 2] {
+        match self {
+            Some(breach) => [breach.rule, breach.state],
+            None => [0, 0],
         }
-        Verdict::Refused(n) => n,
     }
 }
 
@@ -26,5 +21,7 @@ fn store(answer: Verdict, rule: &mut usize, state: &mut usize) -> u8
 pub extern "C" fn balthwyr_clean(table: &[u16], rule: &mut usize, state: &mut usize) -> u8
     ensures { clean_report (clean_of table.now) ≡ record { refusal = result; values = rule.new ∷ state.new ∷ [] } }
 {
-    store(clean::clean(table), rule, state)
+    let told: Report<2> = told(clean::clean(table));
+    [*rule, *state] = told.values;
+    told.refusal
 }

@@ -1,9 +1,9 @@
 -- K1's table is clean and K4's is clean but for its tie, both builds are answered, and so is planning the words of K1's, and those of a
 -- table whose plan has a mask: the promises speak of at least these. Assumes nothing.
+use Rattle.std.specs.Prelude.{Some, Ok}
 use mathlib.Core.Path.{◌≡◌, refl, sym}
 use mathlib.Core.Bool.{true}
 use mathlib.Core.List.{List, [], ◌∷◌, ◌++◌}
-use mathlib.Core.Option.{some}
 use Prim.Native.Nat.{ℕ, zero, suc, ◌+◌, ◌<◌}
 use native.Mathlib.Omega.{arith}
 use borrow.Author.Tests.{eqb-true}
@@ -20,14 +20,12 @@ use Rattle.graph_rules.specs.Clean.{is_clean}
 use Rattle.graph_rules.proofs.Cleanness.{clean-means}
 use Rattle.readings.specs.Answers.{table_read}
 use Rattle.graph.specs.New.{conflicts, wrote, wrote_or_9, written_or, new_of}
-use Rattle.graph.specs.declared.new.BuildAnswer.TheVariants.{Built as Made}
 use Rattle.mask_store.specs.declared.MaskStore.{MaskStore}
 use Rattle.mask_store.specs.Layout.{store_size}
 use Rattle.mask_store.specs.Masks.{table_at, class_at, held, written, held_with, grown, allowed, takes}
 use Rattle.edges.specs.Edges.{class_to, leads_to, targets}
 use Rattle.plan_rules.specs.Plan.{base, by_table, way_to, self_needs, edge_needs, state_needs, needs, self_word, edge_words, plan_row, plan_words, plan_of, holds_plan}
 use Rattle.plan_rules.proofs.RunIsWalk.{base-sane}
-use Rattle.planning.specs.declared.plan.PlanAnswer.TheVariants.{Planned}
 use Rattle.planning.specs.Plan.{PlanCall, plan_call}
 use Rattle.plans.specs.Run.{run_call}
 use Rattle.plans.proofs.Demand3.{own-alike, calls-alike}
@@ -47,7 +45,7 @@ unfolding k1 clean_numbers is_clean
 k1-clean = clean-means k1 k1-legal refl
 
 -- into buffers that have a word more than is needed
-pub k1-made : (new_of k1 (replicate (graph_size 4 + 1) 7) (7 ∷ [])).answer ≡ Made (record { states = 2; root = 0; errors = 0; words = 0 })
+pub k1-made : (new_of k1 (replicate (graph_size 4 + 1) 7) (7 ∷ [])).answer ≡ Ok (record { states = 2; root = 0; errors = 0; words = 0 })
 unfolding k1 refusal_of graph_of new_of written_or wrote_or_9 wrote conflicts
 k1-made = refl
 
@@ -61,7 +59,7 @@ emptied = record { tables = replicate store_size 0; count = 0 }
 abbrev pub k1-call : PlanCall
 k1-call = plan_call base k1-words (replicate 7 7) emptied
 
-pub k1-planned : k1-call.planning.answer ≡ Planned 0
+pub k1-planned : k1-call.planning.answer ≡ Ok 0
 unfolding k1 refusal_of graph_of new_of written_or wrote_or_9 wrote conflicts emptied cost_of graph_buffer state_from graph_from graph_fits table_at class_at held written held_with grown allowed takes class_to leads_to targets by_table way_to self_needs edge_needs state_needs needs self_word edge_words plan_row plan_words plan_of plan_call
 k1-planned = refl
 
@@ -86,7 +84,7 @@ pub looped-clean : Clean (table_of looped)
 unfolding looped clean_numbers is_clean
 looped-clean = clean-means looped looped-legal refl
 
-pub looped-made : (new_of looped (replicate (graph_size 4) 7) []).answer ≡ Made (record { states = 3; root = 0; errors = 0; words = 0 })
+pub looped-made : (new_of looped (replicate (graph_size 4) 7) []).answer ≡ Ok (record { states = 3; root = 0; errors = 0; words = 0 })
 unfolding looped refusal_of graph_of new_of written_or wrote_or_9 wrote conflicts
 looped-made = refl
 
@@ -97,7 +95,7 @@ looped-words = (new_of looped (replicate (graph_size 4) 7) []).graph
 abbrev pub looped-call : PlanCall
 looped-call = plan_call base looped-words (replicate 9 7) emptied
 
-pub looped-planned : looped-call.planning.answer ≡ Planned 1
+pub looped-planned : looped-call.planning.answer ≡ Ok 1
 unfolding looped refusal_of graph_of new_of written_or wrote_or_9 wrote conflicts emptied cost_of graph_buffer state_from graph_from graph_fits table_at class_at held written held_with grown allowed takes class_to leads_to targets by_table way_to self_needs edge_needs state_needs needs self_word edge_words plan_row plan_words plan_of plan_call
 looped-planned = refl
 
@@ -136,7 +134,7 @@ k4-long : length (row_of (table_of k4) 0).steps ≡ step_count
 unfolding k4 graph_of
 k4-long = refl
 
-k4-ends : (s l : ℕ) → ((b : ℕ) → b < 256 → leaf_of (table_of k4) (step (table_of k4) s b) ≡ some l) → ⊥
+k4-ends : (s l : ℕ) → ((b : ℕ) → b < 256 → leaf_of (table_of k4) (step (table_of k4) s b) ≡ Some l) → ⊥
 unfolding k4 graph_of
 k4-ends zero l h = none-some (h 0 (omega arith))
 k4-ends (suc zero) l h = none-some (h 0 (omega arith))
@@ -159,6 +157,6 @@ pub k4-no-empty : empty_leaves (table_of k4) ≡ []
 unfolding k4 graph_of
 k4-no-empty = refl
 
-pub k4-made : (new_of k4 (replicate (graph_size 3) 7) (7 ∷ 7 ∷ 7 ∷ 7 ∷ [])).answer ≡ Made (record { states = 1; root = 0; errors = 1; words = 4 })
+pub k4-made : (new_of k4 (replicate (graph_size 3) 7) (7 ∷ 7 ∷ 7 ∷ 7 ∷ [])).answer ≡ Ok (record { states = 1; root = 0; errors = 1; words = 4 })
 unfolding k4 refusal_of graph_of new_of written_or wrote_or_9 wrote conflicts
 k4-made = refl

@@ -1,19 +1,20 @@
 -- A class that costs little has few comparisons, with few exceptions, and few are read back from the front of the arrays that they are laid out in.
 -- Assumes nothing.
-use mathlib.Core.Path.{◌≡◌, ap, ◌∙◌}
-use mathlib.Core.List.{List, [], ◌∷◌, ◌++◌, map}
-use Prim.Native.Nat.{ℕ, suc, ◌+◌, ◌-◌, ◌≤◌}
+use mathlib.Core.Path.{◌≡◌}
+use mathlib.Core.List.{List, [], ◌∷◌, map}
+use Prim.Native.Nat.{ℕ, suc, ◌-◌, ◌≤◌}
 use native.Mathlib.Omega.{arith}
 use borrow.Author.Tests.{ne_eqb}
 use lib.Dec.{eqb}
-use lib.ListN.{length, take, replicate, length-append, length-map, length-replicate}
-use lib.Seq.{take-append-add}
+use lib.ListN.{length, take, replicate, length-append, length-map}
+use lib.Seq.{take-append_seam}
 use Rattle.lists.proofs.Bools.{Is, yes-is, no-is, is}
 use Rattle.classes.specs.Classes.{Class, Range, Comparison, join, joined, comparisons, ops_of, count_ops, sum_ops, cost}
-use Rattle.classes.specs.ClassAnswers.{row, exceptions, as_comparisons, listed}
+use Rattle.classes.specs.ClassAnswers.{exceptions, entry_of, no_entry, as_comparisons, listed}
 use Rattle.classes.specs.declared.byte_class.Comparisons.{Comparisons}
 use Rattle.classes.proofs.Ranges.{Apart, apart-nil, apart_cons, ranges_apart}
 use Rattle.classes.proofs.Answers.{listed-laid}
+use Rattle.classes.proofs.Rows.{row-long, row-front}
 
 -- ---- each comparison but the first costs something, since none but that begins at byte 0
 
@@ -74,26 +75,17 @@ few-exceptions c = sum-exceptions (comparisons c)
 
 -- ---- laid out
 
-row-long : (l : List ℕ) → 128 ≤ length (row l)
-unfolding row
-row-long l = rw (length-append l (replicate (128 - length l) 0), length-replicate {A = ℕ} (128 - length l) 0) (omega arith)
-
-row-front : (l : List ℕ) (n : ℕ) → length l ≤ n → take n (row l) ≡ l ++ take (n - length l) (replicate (128 - length l) 0)
-unfolding row
-row-front l n h =
-    let e : n ≡ length l + (n - length l) = omega arith in
-    ap (λ (k : ℕ). take k (row l)) e ∙ take-append-add l (replicate (128 - length l) 0) (n - length l)
-
 module _ (ms : List Comparison) {laid : Comparisons} (e : laid ≡ as_comparisons ms) where
-  pub laid-long : (128 ≤ length laid.first) × (128 ≤ length laid.last) × (128 ≤ length laid.holes) × (128 ≤ length laid.except)
+  pub laid-long : (128 ≤ length laid.list) × (128 ≤ length laid.except)
   unfolding as_comparisons
-  laid-long = rw e (row-long _, row-long _, row-long _, row-long _)
+  laid-long = rw e (row-long no_entry _, row-long 0 _)
 
   -- no more is read than is in use
   pub listed-front : (n k : ℕ) → length ms ≤ n → length (exceptions ms) ≤ k
-      → listed laid.count (take n laid.first) (take n laid.last) (take n laid.holes) (take k laid.except) ≡ ms
+      → listed (take laid.count (take n laid.list)) (take k laid.except) ≡ ms
   unfolding as_comparisons
   listed-front n k h x =
-      let column : (f : Comparison → ℕ) → take n (row (map f ms)) ≡ map f ms ++ take (n - length (map f ms)) (replicate (128 - length (map f ms)) 0)
-      = λ f. row-front (map f ms) n (rw (length-map ms f) h) in
-      rw (e, column (λ m. m.range.first), column (λ m. m.range.last), column (λ m. length m.except), row-front (exceptions ms) k x) (listed-laid ms _ _ _ _)
+      let all : length (map entry_of ms) ≡ length ms = length-map ms entry_of in
+      let few : length (map entry_of ms) ≤ n = omega arith in
+      rw (e, row-front no_entry (map entry_of ms) n few, ← all, take-append_seam (map entry_of ms) (take (n - length (map entry_of ms)) (replicate (128 - length (map entry_of ms)) no_entry)), row-front 0 (exceptions ms) k x)
+      (listed-laid ms _)

@@ -1,9 +1,10 @@
 -- The rules on the words of a legal table: state 0 is dead just if all words of its row are 0 (rule 2); the leaf of all that a state's bytes lead to, from the
 -- leaf of each (rule 3). Assumes nothing.
+use Rattle.std.specs.Prelude.{Option, Some, None}
+use Rattle.std.specs.Option.{is_some}
 use mathlib.Core.Path.{◌≡◌, refl, sym, ap, subst, ◌∙◌}
-use mathlib.Core.Bool.{true, false, not, ◌&&◌}
+use mathlib.Core.Bool.{true, false, ◌&&◌}
 use mathlib.Core.List.{List}
-use mathlib.Core.Option.{Option, none}
 use mathlib.Core.Logic.{⊎_elim}
 use Prim.Native.Nat.{ℕ, ◌<◌}
 use native.Mathlib.Nat.{le_of_suc-le-suc, eq-or-lt_of_le}
@@ -11,7 +12,7 @@ use native.Mathlib.Omega.{arith}
 use borrow.Author.Tests.{eqb-true, eq-eqb, ne_eqb}
 use lib.Dec.{eqb}
 use lib.ListN.{length, get_or}
-use Rattle.lists.proofs.Bools.{Is, is, yes-is, no-is, and_both, and_intro, and-right-false}
+use Rattle.lists.proofs.Bools.{and_both, and_intro, and-right-false}
 use Rattle.lists.proofs.Elements.{all-at, all-intro}
 use Rattle.lists.proofs.Judged.{Judged}
 use Rattle.graph_rules.specs.Table.{Table, table_of, refusal, size, row_of, step}
@@ -21,7 +22,7 @@ use Rattle.graph_rules.specs.Clean.{zero_dead, bytes_leaf, endless}
 use Rattle.graph_rules.proofs.Agreed.{agreed-all, agreed-none}
 use Rattle.graph_rules.proofs.Cleanness.{byte_leaves, byte-leaves, byte-leaf}
 use Rattle.graph_rules.proofs.Flat.{step-word, head-word}
-use Rattle.graph_rules.proofs.Nones.{or-none, or_same}
+use Rattle.graph_rules.proofs.Nones.{or_same}
 use Rattle.graph_rules.proofs.Counts.{size_is}
 use Rattle.graph_rules.proofs.Shape.{legal-shaped, legal-width, legal-step}
 use Rattle.graph_rules.specs.Layout.{end_step, step_count, no_leaf, table_row, head_place, row_place}
@@ -72,7 +73,7 @@ module _ (w : List ℕ) (legal : refusal w ≡ 0) where
     inside : s < size t
     inside = rw (size_is w) h
 
-    by-leaf : (b : ℕ) → b < 256 → or_none no_leaf (leaf_by b) ≡ get_or (byte_leaves t (legal-shaped w legal) s inside) b none
+    by-leaf : (b : ℕ) → b < 256 → or_none no_leaf (leaf_by b) ≡ get_or (byte_leaves t (legal-shaped w legal) s inside) b None
     by-leaf b k =
         held _ (subst (λ (n : ℕ). step t s b < n) (size_is w) (legal-step w legal s b inside)) ∙ sym (byte-leaf t (legal-shaped w legal) s inside b k)
 
@@ -83,12 +84,11 @@ module _ (w : List ℕ) (legal : refusal w ≡ 0) where
         sym (agreed-all (byte_leaves t (legal-shaped w legal) s inside) (or_none no_leaf (leaf_by 0)) (omega arith)
         (λ b k. let k' : b < 256 = omega arith in sym (by-leaf b k') ∙ ap (or_none no_leaf) (f b k')))
 
-    pub bytes-differ : (b : ℕ) → b < 256 → (leaf_by b ≡ leaf_by 0 → ⊥) → or_none no_leaf no_leaf ≡ bytes_leaf t s
+    pub bytes-differ : (b : ℕ) → b < 256 → (leaf_by b ≡ leaf_by 0 → ⊥) → None ≡ bytes_leaf t s
     unfolding bytes_leaf
     bytes-differ b k d =
         let n = byte-leaves t (legal-shaped w legal) s inside in
-        or-none no_leaf no_leaf refl
-        ∙ sym (agreed-none (byte_leaves t (legal-shaped w legal) s inside) b (omega arith)
+        sym (agreed-none (byte_leaves t (legal-shaped w legal) s inside) b (omega arith)
         (λ q. d (or_same no_leaf (leaf_by b) (leaf_by 0) (by-leaf b k ∙ q ∙ sym (by-leaf 0 (omega arith))))))
 
 -- by the end step's target r, and the leaf of all that the bytes lead to
@@ -97,10 +97,10 @@ module _ (t : Table) (s r : ℕ) (e : r ≡ step t s end_step) where
   unfolding endless
   endless-not n = and-right-false (present (bytes_leaf t s)) _ (ne_eqb (step t s end_step) 0 (λ q. n (e ∙ q)))
 
-  pub endless-leaf : r ≡ 0 → (l : ℕ) → or_none no_leaf l ≡ bytes_leaf t s → not (eqb l no_leaf) ≡ endless t s
+  pub endless-leaf : r ≡ 0 → (o : Option ℕ) → o ≡ bytes_leaf t s → is_some o ≡ endless t s
   unfolding endless
-  endless-leaf z l at = go (is (eqb l no_leaf)) ∙ ap (λ (o : Option ℕ). present o && eqb (step t s end_step) 0) at
+  endless-leaf z o at = go o ∙ ap (λ (o : Option ℕ). present o && eqb (step t s end_step) 0) at
     where
-      go : Is (eqb l no_leaf) → not (eqb l no_leaf) ≡ (present (or_none no_leaf l) && eqb (step t s end_step) 0)
-      go (yes-is q) = rw q
-      go (no-is q) = rw q (sym (eq-eqb (step t s end_step) 0 (sym e ∙ z)))
+      go : (o : Option ℕ) → is_some o ≡ (present o && eqb (step t s end_step) 0)
+      go None = refl
+      go (Some l) = sym (eq-eqb (step t s end_step) 0 (sym e ∙ z))

@@ -1,9 +1,9 @@
 -- A state is tied just if its chain is not empty and it has no leaf: the highest priority of a chain is that of one of its leaves, so one leaf at least
 -- contends. A chain is empty just if its head is 0. Assumes nothing.
+use Rattle.std.specs.Prelude.{Some, None}
 use mathlib.Core.Path.{◌≡◌, refl, sym, ap, ◌∙◌}
 use mathlib.Core.Bool.{Bool, true, false, not, false≢true}
 use mathlib.Core.List.{List, [], ◌∷◌, map}
-use mathlib.Core.Option.{none, some}
 use mathlib.Core.Logic.{⊎_elim}
 use Prim.Native.Nat.{ℕ, zero, suc, ◌<◌}
 use native.Mathlib.Omega.{arith}
@@ -38,12 +38,12 @@ some-those p (x ∷ l) e = go (is (p x)) (some-those p l)
 
 -- ---- the leaf of a list of contenders, and how many they are
 
-single-few : (c : List ℕ) (l : ℕ) → single c ≡ some l → leb 2 (length c) ≡ false
+single-few : (c : List ℕ) (l : ℕ) → single c ≡ Some l → leb 2 (length c) ≡ false
 single-few [] l e = absurd (none-some e)
 single-few (x ∷ []) l e = refl
 single-few (x ∷ (y ∷ c)) l e = absurd (none-some e)
 
-no-single : (c : List ℕ) → single c ≡ none → 0 < length c → leb 2 (length c) ≡ true
+no-single : (c : List ℕ) → single c ≡ None → 0 < length c → leb 2 (length c) ≡ true
 no-single [] e h = absurd (omega arith)
 no-single (x ∷ []) e h = absurd (none-some (sym e))
 no-single (x ∷ (y ∷ c)) e h = le-leb 2 (length (x ∷ (y ∷ c))) (omega arith)
@@ -81,12 +81,12 @@ module _ (t : Table) (s : ℕ) where
 
   -- ---- a tie, by the state's leaf and the head of its chain
 
-  pub tied-leaf : (l : ℕ) → leaf_of t s ≡ some l → tied t s ≡ false
+  pub tied-leaf : (l : ℕ) → leaf_of t s ≡ Some l → tied t s ≡ false
   unfolding tied leaf_of
   tied-leaf l e = single-few (contenders t s) l e
 
   -- with no leaf, by the head
-  pub tied-head : leaf_of t s ≡ none → (h : ℕ) → h ≡ (row_of t s).head → not (eqb h 0) ≡ tied t s
+  pub tied-head : leaf_of t s ≡ None → (h : ℕ) → h ≡ (row_of t s).head → not (eqb h 0) ≡ tied t s
   unfolding tied leaf_of
   tied-head e h q = go (is (eqb h 0))
     where

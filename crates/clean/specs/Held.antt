@@ -1,6 +1,5 @@
 -- What the parts of the call hold. Definitions only.
-use Rattle.std.specs.Prelude.{◌≡◌, Bool, true, false, List, ℕ, ◌<◌, get_or}
-use Rattle.std.proofs.Math.Option.{Option}
+use Rattle.std.specs.Prelude.{◌≡◌, Bool, true, false, List, ℕ, ◌<◌, get_or, Option}
 use Rattle.lists.specs.Lists.{below, those, select}
 use Rattle.graph_rules.specs.Table.{Table, table_of}
 use Rattle.graph_rules.specs.Graph.{or_none}

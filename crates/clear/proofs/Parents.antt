@@ -1,8 +1,8 @@
 -- Rule 6: a pass over all edges finds the states that some parent does not cover. Assumes nothing.
+use Rattle.std.specs.Prelude.{Some}
 use mathlib.Core.Path.{◌≡◌, sym, ap, subst, ◌∙◌}
 use mathlib.Core.Bool.{Bool, true, false, not, ◌||◌, false≢true}
 use mathlib.Core.List.{List}
-use mathlib.Core.Option.{some}
 use mathlib.Core.Logic.{inl, inr, ⊎_elim}
 use Prim.Native.Nat.{ℕ, ◌+◌, ◌<◌}
 use native.Mathlib.Omega.{arith}
@@ -24,7 +24,7 @@ use Rattle.graph_rules.specs.Layout.{most_states}
 module _ (g : Graph) where
   -- edge c of state p uncovers state u
   abbrev pub Uncovers : ℕ → ℕ → ℕ → Type 0
-  Uncovers p c u = (to g p c ≡ some u) × (eq_option (early_of g p) (accept_of g u) ≡ false)
+  Uncovers p c u = (to g p c ≡ Some u) × (eq_option (early_of g p) (accept_of g u) ≡ false)
 
   abbrev test : ℕ → State → Bool
   test u p = not (leads p u) || eq_option p.early (accept_of g u)
@@ -73,7 +73,7 @@ module _ (g : Graph) where
               (λ x y. subst (In (set out u true)) (some_inj (sym e.0 ∙ y.0)) (get_or-set_same out u true false (let l = v.len in omega arith)));
         }
 
-    pub passed-row : ((d u : ℕ) → to g p d ≡ some u → d < c) → Passed (p + 1) 0 out
+    pub passed-row : ((d u : ℕ) → to g p d ≡ Some u → d < c) → Passed (p + 1) 0 out
     passed-row wide = record { len = v.len; pass = pass-row Uncovers p c (In out) v.pass (λ d u e. wide d u e.0) }
 
   -- all have been passed

@@ -5,28 +5,23 @@ ghost use Rattle.std.specs.Prelude.{◌≡◌, true, false, not, ℕ, ◌<◌, g
 ghost use Rattle.graph_rules.specs.Graph.{graph_fits, graph_from, rewritten};
 ghost use Rattle.graph_rules.specs.Build.{covered, with_cleared};
 
-use words::graph::{NO_LEAF, accept, early, set_marks, states, target};
-use words::{NONE, STATES, STEPS};
+use words::graph::{Graph, set_marks};
+use words::{STATES, STEPS};
 
 // Which states have a parent, by a byte or the end, whose early leaf is not the one they accept.
-fn uncovered(graph: &[u16]) -> [bool; STATES]
-    requires { graph_fits graph.now ≡ true }
-    ensures { (s : ℕ) → s < get_or graph.now 0 0 → get_or result s false ≡ not (covered (graph_from graph.now) s) }
+fn uncovered(graph: Graph<'_>) -> [bool; STATES]
+    ensures { (s : ℕ) → s < get_or graph.entry.words.now 0 0 → get_or result s false ≡ not (covered (graph_from graph.entry.words.now) s) }
 {
-    let n = states(graph);
     let mut out = [false; STATES];
-    let mut p: usize = 0;
-    while p < n {
-        let leaf = early(graph, p);
-        let mut c: usize = 0;
-        while c < STEPS {
-            let u = target(graph, p, c);
-            c += 1;
-            if u != NONE && accept(graph, u) != leaf {
-                out[u] = true;
+    for p in 0..graph.states() {
+        let leaf = graph.early(p);
+        for c in 0..STEPS {
+            if let Some(u) = graph.target(p, c) {
+                if graph.accept(u) != leaf {
+                    out[u] = true;
+                }
             }
         }
-        p += 1;
     }
     out
 }
@@ -37,14 +32,13 @@ pub fn clear(graph: &mut [u16])
     ensures graph_after { graph.new ≡ rewritten with_cleared graph.old }
     ensures graph_after_2 { graph_fits graph.new ≡ true }
 {
-    let n = states(graph);
-    let lasting = uncovered(graph);
-    let mut s: usize = 0;
-    while s < n {
+    let before = Graph { words: graph };
+    let n = before.states();
+    let lasting = uncovered(before);
+    for s in 0..n {
         if !lasting[s] {
-            let leaf = early(graph, s);
-            set_marks(graph, s, NO_LEAF, leaf);
+            let leaf = Graph { words: graph }.early(s);
+            set_marks(graph, s, None, leaf);
         }
-        s += 1;
     }
 }

@@ -1,4 +1,5 @@
 -- Which states of a set are tied, counted from the last state down, and how many words their conflicts take. Sorting changes neither number. Assumes nothing.
+use Rattle.std.specs.Prelude.{Option, Some, None}
 use mathlib.Core.Path.{◌≡◌, refl, sym, ap, ◌∙◌}
 use mathlib.Core.Bool.{Bool, true, false, ◌&&◌}
 use mathlib.Core.List.{List, [], ◌∷◌, map, flat_map}
@@ -8,7 +9,7 @@ use borrow.Author.Tests.{leb-true, le-leb, lt-leb}
 use lib.Dec.{leb}
 use lib.ListN.{length, get_or, take, length-map, length-append}
 use Rattle.lists.specs.Lists.{below, select, sorted}
-use Rattle.lists.proofs.Bools.{Is, is, yes-is, no-is, and_both, and_intro, and-right-false}
+use Rattle.lists.proofs.Bools.{Is, is, yes-is, no-is, none-some, and_both, and_intro, and-right-false}
 use Rattle.lists.proofs.Elements.{length-tab}
 use Rattle.lists.proofs.Selecting.{select-whole}
 use Rattle.lists.proofs.Chosen.{chosen_on, chosen-end, chosen-all, chosen-pass, chosen_more}
@@ -17,9 +18,9 @@ use Rattle.lists.proofs.Those.{those-map}
 use Rattle.graph_rules.specs.Table.{Table, table_of, refusal}
 use Rattle.graph_rules.specs.Build.{contenders, Error, disambiguation, error_words, ties}
 use Rattle.graph_rules.proofs.Counts.{size_is}
-use Rattle.leaves.specs.Chains.{top_of, next_tied, tie_from}
+use Rattle.leaves.specs.Chains.{top_of, next_tied, tie_from, tie_at}
 use Rattle.conflicts.specs.Slots.{tied_at}
-use Rattle.leaves.proofs.Contenders.{contenders-top, tie_end, tie-step, next-tied-low, top-low}
+use Rattle.leaves.proofs.Contenders.{contenders-top, tie-step, next-tied-low, top-low}
 use Rattle.graph_rules.specs.Layout.{most_leaves}
 
 -- ---- a state of a set that is tied
@@ -38,53 +39,53 @@ module _ (w : List ℕ) (legal : refusal w ≡ 0) (set : List Bool) (s : ℕ) wh
   unfolding tied_at
   tied-if q = rw (q, tied_at)
 
-  tied-not : tied ≡ false → tied_at t set s ≡ 0
+  tied-not : tied ≡ false → tied_at t set s ≡ None
   unfolding tied_at
   tied-not q = rw (q, tied_at)
 
   -- by its flag and the two records that a walk looks at
-  pub tied_out : get_or set s false ≡ false → tied_at t set s ≡ 0
+  pub tied_out : get_or set s false ≡ false → tied_at t set s ≡ None
   tied_out o = tied-not (ap (λ (b : Bool). b && leb 2 number) o)
 
-  pub tied-none : top_of t s ≡ 0 → tied_at t set s ≡ 0
+  pub tied-none : top_of t s ≡ None → tied_at t set s ≡ None
   tied-none e =
-      let l = ap length (contenders-top w legal s ∙ ap (tie_from t) e ∙ tie_end w legal) in
+      let l = ap length (contenders-top w legal s ∙ ap (tie_at t) e) in
       tied-not (and-right-false (get_or set s false) (leb 2 number) (lt-leb 2 number (omega arith)))
 
-  module _ (some-top : 0 < top_of t s) where
-    tie-longer : number ≡ suc (length (tie_from t (next_tied t (top_of t s))))
-    tie-longer = ap length (contenders-top w legal s ∙ tie-step w legal (top_of t s) some-top (top-low w legal s))
+  module _ (i : ℕ) (top : top_of t s ≡ Some i) where
+    tie-longer : number ≡ suc (length (tie_at t (next_tied t i)))
+    tie-longer = let r = top-low w legal s i top in ap length (contenders-top w legal s ∙ ap (tie_at t) top ∙ tie-step w legal i r.0 r.1)
 
-    pub tied-one : next_tied t (top_of t s) ≡ 0 → tied_at t set s ≡ 0
+    pub tied-one : next_tied t i ≡ None → tied_at t set s ≡ None
     tied-one e =
         let a = tie-longer in
-        let l = ap length (ap (tie_from t) e ∙ tie_end w legal) in
+        let l = ap (λ (o : Option ℕ). length (tie_at t o)) e in
         tied-not (and-right-false (get_or set s false) (leb 2 number) (lt-leb 2 number (omega arith)))
 
-    pub tied-two : get_or set s false ≡ true → 0 < next_tied t (top_of t s) → tied_at t set s ≡ top_of t s
-    tied-two m a =
-        let i = next_tied t (top_of t s) in
-        let b = next-tied-low w legal (top_of t s) some-top (top-low w legal s) in
-        let r = top-low w legal s in
-        let l = ap length (tie-step w legal i a (omega arith)) in
-        let e = tie-longer in
-        tied-if (and_intro (get_or set s false) (leb 2 number) m (le-leb 2 number (omega arith)))
+    pub tied-two : get_or set s false ≡ true → (j : ℕ) → next_tied t i ≡ Some j → tied_at t set s ≡ Some i
+    tied-two m j e =
+        let r = top-low w legal s i top in
+        let b = next-tied-low w legal i j r.0 r.1 e in
+        let l = ap length (tie-step w legal j b.0 (omega arith)) in
+        let n = ap (λ (o : Option ℕ). length (tie_at t o)) e in
+        let a = tie-longer in
+        tied-if (and_intro (get_or set s false) (leb 2 number) m (le-leb 2 number (omega arith))) ∙ top
 
   -- what it tells of the contenders
-  pub tied-yes : 0 < tied_at t set s → (tied ≡ true) × (contenders t s ≡ tie_from t (tied_at t set s))
-  tied-yes a = go (is tied)
+  pub tied-yes : (i : ℕ) → tied_at t set s ≡ Some i → (tied ≡ true) × (contenders t s ≡ tie_from t i)
+  tied-yes i e = go (is tied)
     where
-      go : Is tied → (tied ≡ true) × (contenders t s ≡ tie_from t (tied_at t set s))
-      go (yes-is q) = (q, contenders-top w legal s ∙ ap (tie_from t) (sym (tied-if q)))
-      go (no-is q) = let e = tied-not q in absurd (omega arith)
+      go : Is tied → (tied ≡ true) × (contenders t s ≡ tie_from t i)
+      go (yes-is q) = (q, contenders-top w legal s ∙ ap (tie_at t) (sym (tied-if q) ∙ e))
+      go (no-is q) = absurd (none-some (sym (tied-not q) ∙ e))
 
-  pub tied-no : tied_at t set s ≡ 0 → tied ≡ false
+  pub tied-no : tied_at t set s ≡ None → tied ≡ false
   tied-no e = go (is tied)
     where
       go : Is tied → tied ≡ false
       go (no-is q) = q
       go (yes-is q) =
-          let l = ap length (contenders-top w legal s ∙ ap (tie_from t) (sym (tied-if q) ∙ e) ∙ tie_end w legal) in
+          let l = ap length (contenders-top w legal s ∙ ap (tie_at t) (sym (tied-if q) ∙ e)) in
           let h = leb-true 2 number (and_both (get_or set s false) (leb 2 number) q).1 in
           absurd (omega arith)
 
@@ -156,15 +157,13 @@ module _ (w : List ℕ) (legal : refusal w ≡ 0) (set : List Bool) (s : ℕ) (s
   back : ties_on (table_of w) (get_or w 0 0) set (suc (s - 1)) ≡ here
   back = let e : suc (s - 1) ≡ s = omega arith in ap (ties_on (table_of w) (get_or w 0 0) set) e
 
-  module _ (i : ℕ) (at : i ≡ tied_at (table_of w) set (s - 1)) where
-    pub down-free : i ≡ 0 → down ≡ here
-    down-free z = ties-pass (table_of w) (get_or w 0 0) set (s - 1) (omega arith) (tied-no w legal set (s - 1) (sym at ∙ z)) ∙ back
+  pub down-free : tied_at (table_of w) set (s - 1) ≡ None → down ≡ here
+  down-free e = ties-pass (table_of w) (get_or w 0 0) set (s - 1) (omega arith) (tied-no w legal set (s - 1) e) ∙ back
 
-    pub down-tied : (i ≡ 0 → ⊥) → down ≡ tie_from (table_of w) i ∷ here
-    down-tied z =
-        let (q, e) = tied-yes w legal set (s - 1) (omega (arith, z)) in
-        let r : contenders (table_of w) (s - 1) ≡ tie_from (table_of w) i = e ∙ ap (tie_from (table_of w)) (sym at) in
-        ties-more (table_of w) (get_or w 0 0) set (s - 1) (omega arith) q ∙ (let b = back in cc)
+  pub down-tied : (i : ℕ) → tied_at (table_of w) set (s - 1) ≡ Some i → down ≡ tie_from (table_of w) i ∷ here
+  down-tied i e =
+      let (q, r) = tied-yes w legal set (s - 1) i e in
+      ties-more (table_of w) (get_or w 0 0) set (s - 1) (omega arith) q ∙ (let b = back in cc)
 
 -- ---- counted from the last state down to s
 

@@ -6,8 +6,8 @@ use native.Mathlib.Numerals.{add-one}
 use native.Mathlib.Omega.{arith}
 use borrow.Author.Tests.{eq-eqb, ne_eqb}
 use lib.Dec.{eqb}
-use lib.ListN.{length, get_or, take, drop, drop_of_length-le}
-use lib.Seq.{sets, length-take-le, drop-cons, get_or-take}
+use lib.ListN.{length, get_or, drop, drop_of_length-le}
+use lib.Seq.{sets, drop-cons}
 use Rattle.lists.specs.Lists.{tab, those}
 use Rattle.lists.proofs.Buffers.{sets-front}
 use Rattle.lists.proofs.Runs.{Underway}
@@ -28,17 +28,14 @@ run-listed errors {words} {found} {out} {rest} {at} e z room u =
 unfoldable pub tie_words : Table → List ℕ → List ℕ
 tie_words t l = flat_map error_words (map disambiguation (map (tie_from t) l))
 
-module _ (t : Table) (l : List ℕ) (count : ℕ) (long : count ≤ length l) where
-  pub ties-on : (k : ℕ) → k < count
-      → tie_words t (drop k (take count l)) ≡ error_words (disambiguation (tie_from t (get_or l k 0))) ++ tie_words t (drop (k + 1) (take count l))
+module _ (t : Table) (l : List ℕ) (k : ℕ) where
+  pub ties-on : k < length l → tie_words t (drop k l) ≡ error_words (disambiguation (tie_from t (get_or l k 0))) ++ tie_words t (drop (k + 1) l)
   unfolding tie_words flat_map
-  ties-on k h =
-      let e = length-take-le count l long in
-      rw (drop-cons (take count l) k 0 (omega arith), get_or-take count l k 0 h, add-one k)
+  ties-on h = rw (drop-cons l k 0 h, add-one k)
 
-  pub ties-over : tie_words t (drop count (take count l)) ≡ []
+  pub ties-over : length l ≤ k → tie_words t (drop k l) ≡ []
   unfolding tie_words flat_map
-  ties-over = rw (drop_of_length-le (take count l) {i = count} (let e = length-take-le count l long in omega arith))
+  ties-over h = rw (drop_of_length-le l {i = k} h)
 
 -- ---- leaves that can be empty, from leaf l on, of m
 

@@ -44,7 +44,7 @@ module _ (w : List ℕ) (legal : refusal w ≡ 0) (set : List Bool) (s : ℕ) (o
   sorting-few : count ≤ most_states
   sorting-few = let f = c.few in let z = legal-sized w legal in omega arith
 
-  pub sorting-order : InOrder (table_of w) (get_or w 3 0) order count
+  sorting-order : InOrder (table_of w) (get_or w 3 0) order count
   sorting-order = record { held = c.held; ordered = λ i j h b. at i j h b }
     where
       here : (j : ℕ) → j < count → get_or (map tie (take count order)) j [] ≡ tie (get_or order j 0)
@@ -64,6 +64,24 @@ module _ (w : List ℕ) (legal : refusal w ≡ 0) (set : List Bool) (s : ℕ) (o
           (ordered_at (map tie (take count order)) sort i j h
           (let e = length-take-le count order (omega arith) in let d = length-map (take count order) tie in omega arith))
 
+  -- the part of the array that holds them, as a slice
+  held-length : length (take count order) ≡ count
+  held-length = length-take-le count order c.held.long
+
+  pub sorting-slice : InOrder (table_of w) (get_or w 3 0) (take count order) (length (take count order))
+  sorting-slice =
+      let e = held-length in
+      let few = sorting-few in
+      record {
+        held = record {
+          few = omega arith;
+          long = omega arith;
+          low = λ j h. rw (get_or-take count order j 0 (omega arith)) (c.held.low j (omega arith));
+        };
+        ordered = λ i j h b.
+            rw (get_or-take count order i 0 (omega arith), get_or-take count order j 0 (omega arith)) (sorting-order.ordered i j h (omega arith));
+      }
+
   -- a state that is not tied, and one that is
   module _ (some : 0 < s) where
     pub sorting-pass : ties_on (table_of w) (get_or w 0 0) set (s - 1) ≡ ties_on (table_of w) (get_or w 0 0) set s → Sorting w set (s - 1) order count
@@ -72,10 +90,11 @@ module _ (w : List ℕ) (legal : refusal w ≡ 0) (set : List Bool) (s : ℕ) (o
         let f = c.few in
         record { inside = omega arith; few = omega arith; long = c.long; held = c.held; ties = c.ties ∙ ap sorted (sym e) }
 
-    pub sorting-more : (i p : ℕ) → i ≤ get_or w 3 0 → p ≡ slot (tie i) (map tie (take count order)) → p ≤ count
+    pub sorting-more : (i p : ℕ) → 0 < i → i ≤ get_or w 3 0 → p ≡ slot (tie i) (map tie (take count order)) → p ≤ length (take count order)
         → ties_on (table_of w) (get_or w 0 0) set (s - 1) ≡ tie i ∷ ties_on (table_of w) (get_or w 0 0) set s
         → Sorting w set (s - 1) (put_in order count p i) (count + 1)
-    sorting-more i p b q in_place e =
+    sorting-more i p a b q inside e =
+        let in_place : p ≤ count = let h = held-length in omega arith in
         let l = c.long in
         let f = c.few in
         let g = c.inside in
@@ -84,7 +103,7 @@ module _ (w : List ℕ) (legal : refusal w ≡ 0) (set : List Bool) (s : ℕ) (o
           inside = omega arith;
           few = omega arith;
           long = put-length order count p i in_place (omega arith) ∙ l;
-          held = put-held order count p i in_place (omega arith) (get_or w 3 0) c.held b (omega arith);
+          held = put-held order count p i in_place (omega arith) (get_or w 3 0) c.held a b (omega arith);
           ties =
               put-insert order count p i in_place (omega arith) tie q
               ∙ ap (insert (tie i)) c.ties

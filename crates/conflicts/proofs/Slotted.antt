@@ -5,21 +5,23 @@ use mathlib.Core.List.{List, [], ◌∷◌, ◌++◌, map, map-append, append_as
 use Prim.Native.Nat.{ℕ, zero, suc, ◌+◌, ◌-◌, ◌≤◌, ◌<◌, zero-le, suc-le-suc}
 use native.Mathlib.Nat.{not-suc-le-zero, le_of_suc-le-suc}
 use native.Mathlib.Omega.{arith}
+use borrow.Author.Tests.{ne_eqb}
+use lib.Dec.{ltb}
 use lib.ListN.{length, get_or, take, drop, set, length-append, length-take, length-drop, length-map, take-append-drop, get_or-append}
 use lib.Seq.{length-take-le, take-suc, drop-cons, append_snoc, set_at, get_or-take, get_or-drop, get_or_at, get_or-append-add, take-add, take_at, drop_at}
 use Rattle.lists.specs.Lists.{before, insert}
-use Rattle.lists.proofs.Bools.{Is, is, yes-is, no-is, Order, order, less, equal, more}
+use Rattle.lists.proofs.Bools.{or-false, Is, is, yes-is, no-is, Order, order, less, equal, more}
 use Rattle.lists.proofs.Elements.{map_at}
-use Rattle.lists.proofs.Sorted.{before-less, before-equal, before_more, before-not}
+use Rattle.lists.proofs.Sorted.{before-equal, before-not}
 use Rattle.graph_rules.specs.Table.{table_of, match_of, refusal}
-use Rattle.leaves.specs.Chains.{next_tied, tie_from}
+use Rattle.leaves.specs.Chains.{next_tied, tie_from, tie_at}
 use Rattle.conflicts.specs.Slots.{slot, put_in, Held}
-use Rattle.leaves.proofs.Contenders.{tie_end, tie-step}
+use Rattle.leaves.proofs.Contenders.{tie-step}
 use Rattle.graph_rules.specs.Layout.{most_states}
 
 -- ---- two ties, by their records
 
-module _ (w : List ℕ) (legal : refusal w ≡ 0) where
+module _ (w : List ℕ) (legal : refusal w ≡ 0) (i : ℕ) (some-i : 0 < i) (held-i : i ≤ get_or w 3 0) where
   abbrev tie : ℕ → List ℕ
   tie i = tie_from (table_of w) i
 
@@ -27,27 +29,20 @@ module _ (w : List ℕ) (legal : refusal w ≡ 0) where
   leaf i = (match_of (table_of w) i).leaf
 
   abbrev rest : ℕ → List ℕ
-  rest i = tie (next_tied (table_of w) i)
+  rest i = tie_at (table_of w) (next_tied (table_of w) i)
 
-  pub none_before : (j : ℕ) → before (tie 0) (tie j) ≡ true
-  none_before j = rw (tie_end w legal)
+  pub before-none : before (tie i) [] ≡ false
+  before-none = ap (λ (l : List ℕ). before l []) (tie-step w legal i some-i held-i)
 
-  module _ (i : ℕ) (some-i : 0 < i) (held-i : i ≤ get_or w 3 0) where
-    pub before-none : before (tie i) (tie 0) ≡ false
-    before-none = ap₂ before (tie-step w legal i some-i held-i) (tie_end w legal)
+  module _ (j : ℕ) (some-j : 0 < j) (held-j : j ≤ get_or w 3 0) where
+    both : before (tie i) (tie j) ≡ before (leaf i ∷ rest i) (leaf j ∷ rest j)
+    both = ap₂ before (tie-step w legal i some-i held-i) (tie-step w legal j some-j held-j)
 
-    module _ (j : ℕ) (some-j : 0 < j) (held-j : j ≤ get_or w 3 0) where
-      both : before (tie i) (tie j) ≡ before (leaf i ∷ rest i) (leaf j ∷ rest j)
-      both = ap₂ before (tie-step w legal i some-i held-i) (tie-step w legal j some-j held-j)
+    pub unlike-before : (leaf i ≡ leaf j → ⊥) → before (tie i) (tie j) ≡ ltb (leaf i) (leaf j)
+    unlike-before n = both ∙ rw (ne_eqb (leaf i) (leaf j) n) (or-false (ltb (leaf i) (leaf j)))
 
-      pub less-before : leaf i < leaf j → before (tie i) (tie j) ≡ true
-      less-before h = both ∙ before-less (leaf i) (leaf j) (rest i) (rest j) h
-
-      pub more-before : leaf j < leaf i → before (tie i) (tie j) ≡ false
-      more-before h = both ∙ before_more (leaf i) (leaf j) (rest i) (rest j) h
-
-      pub equal-before : leaf i ≡ leaf j → before (tie i) (tie j) ≡ before (rest i) (rest j)
-      equal-before e = both ∙ before-equal (leaf i) (leaf j) (rest i) (rest j) e
+    pub equal-before : leaf i ≡ leaf j → before (tie i) (tie j) ≡ before (rest i) (rest j)
+    equal-before e = both ∙ before-equal (leaf i) (leaf j) (rest i) (rest j) e
 
 -- ---- the place of a list among those in order
 
@@ -95,19 +90,17 @@ module _ (f : ℕ → List ℕ) (l : List ℕ) (k : ℕ) (a : List ℕ) where
           comes = b.comes;
         }
 
-  pub between-slot : k ≤ length l → (p q : ℕ) → q ≤ p → Between f l k a p q → slot a (map f (take k l)) ≡ p
-  between-slot long p q h b =
-      let i = b.inside in
-      let e = b.end in
-      slot_is a (map f (take k l)) p (let n = number in omega arith)
-      (λ j g. ap (before a) (at j (omega arith)) ∙ b.passed j g)
-      (λ g. let g' : q < k = let n = number in omega arith in let z : p ≡ q = omega arith in ap (before a) (at p (omega arith)) ∙ ap (λ (x : ℕ). before a (f (get_or l x 0))) z ∙ b.comes g')
-    where
-      number : length (map f (take k l)) ≡ k
-      number = length-map (take k l) f ∙ length-take-le k l long
-
-      at : (j : ℕ) → j < k → get_or (map f (take k l)) j [] ≡ f (get_or l j 0)
-      at j g = map_at f (take k l) j 0 [] (let z = length-take-le k l long in omega arith) ∙ ap f (get_or-take k l j 0 g)
+-- the places of the whole list are halved until one is left
+pub between-slot : (f : ℕ → List ℕ) (l : List ℕ) (a : List ℕ) (p q : ℕ) → q ≤ p → Between f l (length l) a p q → slot a (map f l) ≡ p
+between-slot f l a p q h b =
+    let i = b.inside in
+    let e = b.end in
+    slot_is a (map f l) p (let n = length-map l f in omega arith)
+    (λ j g. ap (before a) (map_at f l j 0 [] (omega arith)) ∙ b.passed j g)
+    (λ g.
+    let g' : p < length l = let n = length-map l f in omega arith in
+    let z : p ≡ q = omega arith in
+    ap (before a) (map_at f l p 0 [] g') ∙ ap (λ (x : ℕ). before a (f (get_or l x 0))) z ∙ b.comes (omega arith))
 
 -- ---- a record put in at that place
 
@@ -191,8 +184,8 @@ module _ (l : List ℕ) (k p v : ℕ) (low : p ≤ k) (room : k < length l) wher
       ∙ sym i
       ∙ ap (insert (f v)) (sym q)
 
-  pub put-held : (r : ℕ) → Held r l k → v ≤ r → k < most_states → Held r (put_in l k p v) (k + 1)
-  put-held r h b few = record { few = omega arith; long = let e = put-length in omega arith; low = λ j g. subst (λ (x : ℕ). x ≤ r) (sym (here j g)) (go j g (order j p)) }
+  pub put-held : (r : ℕ) → Held r l k → 0 < v → v ≤ r → k < most_states → Held r (put_in l k p v) (k + 1)
+  put-held r h a b few = record { few = omega arith; long = let e = put-length in omega arith; low = λ j g. subst (λ (x : ℕ). (0 < x) × (x ≤ r)) (sym (here j g)) (go j g (order j p)) }
     where
       front : List ℕ
       front = take p l ++ (v ∷ after)
@@ -203,16 +196,16 @@ module _ (l : List ℕ) (k p v : ℕ) (low : p ≤ k) (room : k < length l) wher
       first : length (take p l) ≡ p
       first = length-take-le p l (omega arith)
 
-      go : (j : ℕ) → j < k + 1 → Order j p → get_or front j 0 ≤ r
+      go : (j : ℕ) → j < k + 1 → Order j p → (0 < get_or front j 0) × (get_or front j 0 ≤ r)
       go j g (less q) =
           let e : get_or front j 0 ≡ get_or l j 0 = get_or-append (take p l) (v ∷ after) 0 j (let z = first in omega arith) ∙ get_or-take p l j 0 q in
           let m = h.low j (omega arith) in
-          omega arith
-      go j g (equal q) = let e : get_or front j 0 ≡ v = get_or_at (take p l) v after 0 j (first ∙ sym q) in omega arith
+          (omega arith, omega arith)
+      go j g (equal q) = let e : get_or front j 0 ≡ v = get_or_at (take p l) v after 0 j (first ∙ sym q) in (omega arith, omega arith)
       go j g (more q) =
           let m = j - suc p in
           let n : j ≡ length (take p l) + suc m = let z = first in omega arith in
           let e : get_or front j 0 ≡ get_or l (p + m) 0 =
           ap (λ (i : ℕ). get_or front i 0) n ∙ get_or-append-add (take p l) (v ∷ after) (suc m) 0 ∙ get_or-take (k - p) (drop p l) m 0 (omega arith) ∙ get_or-drop p l m 0 in
           let b = h.low (p + m) (omega arith) in
-          omega arith
+          (omega arith, omega arith)

@@ -1,42 +1,43 @@
--- The text of a class, range by range, as its struct holds them. Assumes nothing.
-use mathlib.Core.Path.{◌≡◌, ap}
-use mathlib.Core.List.{List, [], ◌++◌, map}
-use Prim.Native.Nat.{ℕ, ◌+◌, ◌≤◌, ◌<◌}
-use native.Mathlib.Numerals.{add-one}
+-- The text of a class, range by range, as a slice of its ranges holds them. Assumes nothing.
+use mathlib.Core.Path.{◌≡◌, ap, ◌∙◌, sym}
+use mathlib.Core.List.{List, [], ◌∷◌, ◌++◌, map}
+use Prim.Native.Nat.{ℕ, ◌+◌, ◌-◌, ◌≤◌, ◌<◌}
 use native.Mathlib.Omega.{arith}
-use lib.ListN.{get_or, drop}
+use lib.ListN.{length, get_or, take, drop}
+use lib.Seq.{take_all}
 use Rattle.texts.specs.Text.{bytes, after, joined}
-use Rattle.texts.proofs.Joins.{joined-none, after_none}
+use Rattle.texts.proofs.Joins.{joined-none, after_next, after_none}
 use Rattle.classes.specs.Classes.{Class, Range, ranges}
-use Rattle.classes.specs.ClassAnswers.{as_byte_class}
-use Rattle.classes.specs.declared.byte_class.ByteClass.{ByteClass}
-use Rattle.classes.proofs.Answers.{held-count, held_next}
+use Rattle.classes.specs.ClassAnswers.{no_range}
 use Rattle.display.specs.Display.{range_text, class_text}
 
-abbrev ranged : Range → List ℕ
+abbrev pub ranged : Range → List ℕ
 ranged r = range_text r.first r.last
 
--- the ranges from number i on, each with a bar before it
-unfoldable pub barred : Class → ℕ → List ℕ
-barred c i = after (bytes "|") (map ranged (drop i (ranges c)))
+-- ranges from number i on, each with a bar before it
+unfoldable pub barred : List Range → ℕ → List ℕ
+barred rs i = after (bytes "|") (map ranged (drop i rs))
 
-module _ (c : Class) {held : ByteClass} (e : held ≡ as_byte_class (ranges c)) where
-  -- range i, as the struct has it
-  abbrev pub range_of : ℕ → List ℕ
-  range_of i = range_text (get_or held.first i 0) (get_or held.last i 0)
+-- all ranges but the first
+abbrev pub others : List Range → List Range
+others rs = take (length rs - 1) (drop 1 rs)
 
-  pub class-none : held.count ≡ 0 → class_text c ≡ []
-  unfolding class_text
-  class-none h = joined-none (bytes "|") ranged (ranges c) (let n = held-count (ranges c) e in omega arith)
+pub class-none : (c : Class) (rs : List Range) → rs ≡ ranges c → length rs < 1 → class_text c ≡ []
+unfolding class_text
+class-none c rs e h = ap (λ (l : List Range). joined (bytes "|") (map ranged l)) (sym e) ∙ joined-none (bytes "|") ranged rs (omega arith)
 
-  pub class-first : (held.count ≡ 0 → ⊥) → class_text c ≡ range_of 0 ++ barred c 1
-  unfolding class_text barred
-  class-first h = ap (λ (l : List Range). joined (bytes "|") (map ranged l)) (held_next (ranges c) e 0 (omega (arith, h)))
+pub class-first : (c : Class) (rs : List Range) → rs ≡ ranges c → 1 ≤ length rs → class_text c ≡ ranged (get_or rs 0 no_range) ++ barred (others rs) 0
+unfolding class_text barred
+class-first c rs e h = ap (λ (l : List Range). joined (bytes "|") (map ranged l)) (sym e) ∙ go rs h
+  where
+    go : (l : List Range) → 1 ≤ length l → joined (bytes "|") (map ranged l) ≡ ranged (get_or l 0 no_range) ++ after (bytes "|") (map ranged (others l))
+    go [] h = absurd (omega arith)
+    go (r ∷ l) h = ap (λ (k : List Range). ranged r ++ after (bytes "|") (map ranged k)) (sym (take_all (length (r ∷ l) - 1) l (omega arith)))
 
-  pub barred-next : (i : ℕ) → i < held.count → barred c i ≡ bytes "|" ++ (range_of i ++ barred c (i + 1))
-  unfolding barred
-  barred-next i h = rw (add-one i) (ap (λ (l : List Range). after (bytes "|") (map ranged l)) (held_next (ranges c) e i h))
+pub barred-next : (rs : List Range) (i : ℕ) → i < length rs → barred rs i ≡ (bytes "|" ++ ranged (get_or rs i no_range)) ++ barred rs (i + 1)
+unfolding barred
+barred-next rs i h = after_next (bytes "|") ranged rs no_range i h
 
-  pub barred-none : (i : ℕ) → held.count ≤ i → barred c i ≡ []
-  unfolding barred
-  barred-none i h = after_none (bytes "|") ranged (ranges c) i (let n = held-count (ranges c) e in omega arith)
+pub barred-none : (rs : List Range) (i : ℕ) → length rs ≤ i → barred rs i ≡ []
+unfolding barred
+barred-none rs i h = after_none (bytes "|") ranged rs i h

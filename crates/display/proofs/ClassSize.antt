@@ -1,27 +1,27 @@
 -- The text of a class has at most seven bytes for each of its own. Assumes nothing.
+use Rattle.std.specs.Prelude.{Option, Some, None}
 use mathlib.Core.Path.{◌≡◌, refl, ap}
 use mathlib.Core.Bool.{Bool, true, false, ◌&&◌}
 use mathlib.Core.List.{List, [], ◌∷◌, ◌++◌, map}
-use mathlib.Core.Logic.{◌⊎◌, inl, inr}
-use Prim.Native.Nat.{ℕ, suc, ◌+◌, ◌*◌, ◌≤◌, ◌<◌}
+use Prim.Native.Nat.{ℕ, suc, ◌+◌, ◌*◌, ◌≤◌}
 use native.Mathlib.Omega.{arith}
 use borrow.Author.Tests.{eqb-true, eqb-false}
 use lib.Dec.{eqb, leb}
 use lib.ListN.{length, length-append}
 use Rattle.lists.specs.Sets.{count}
-use Rattle.lists.proofs.Bools.{Is, is, yes-is, no-is, lt-or-le}
+use Rattle.lists.proofs.Bools.{Is, is, yes-is, no-is}
 use Rattle.texts.specs.Text.{bytes, after, joined}
 use Rattle.classes.specs.Classes.{Class, Range, widen, ranges_from, ranges}
 use Rattle.display.specs.Display.{letter_of, escaped, range_text, class_text}
 use Rattle.display.proofs.Escapes.{escaped-letter, escaped-plain, escaped-hex, range-one, range-two}
 
 pub escaped-size : (b : ℕ) → length (escaped b) ≤ 4
-escaped-size b = go (lt-or-le 0 (letter_of b)) (is (leb 32 b && leb b 126))
+escaped-size b = go (letter_of b) refl (is (leb 32 b && leb b 126))
   where
-    go : (0 < letter_of b) ⊎ (letter_of b ≤ 0) → Is (leb 32 b && leb b 126) → length (escaped b) ≤ 4
-    go (inl h) q = rw (escaped-letter b (letter_of b) refl h) (omega arith)
-    go (inr h) (yes-is q) = rw (escaped-plain b (letter_of b) refl h q) (omega arith)
-    go (inr h) (no-is q) = rw (escaped-hex b (letter_of b) refl h q) (omega arith)
+    go : (o : Option ℕ) → o ≡ letter_of b → Is (leb 32 b && leb b 126) → length (escaped b) ≤ 4
+    go (Some l) e q = rw (escaped-letter b l e) (omega arith)
+    go None e (yes-is q) = rw (escaped-plain b e q) (omega arith)
+    go None e (no-is q) = rw (escaped-hex b e q) (omega arith)
 
 -- the length of a range's text, by its two ways
 data Ways (first last : ℕ) : Type 0 where

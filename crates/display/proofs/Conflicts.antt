@@ -3,7 +3,7 @@ use mathlib.Core.Path.{◌≡◌, refl, sym, ap, ◌∙◌}
 use mathlib.Core.Bool.{true}
 use mathlib.Core.List.{List, [], ◌++◌, map}
 use mathlib.Core.Logic.{◌⊎◌, inl, inr}
-use Prim.Native.Nat.{ℕ, ◌+◌, ◌*◌, ◌≤◌, ◌<◌}
+use Prim.Native.Nat.{ℕ, ◌+◌, ◌-◌, ◌*◌, ◌≤◌, ◌<◌}
 use native.Mathlib.Omega.{arith}
 use borrow.Author.Tests.{leb-true}
 use lib.Dec.{leb}
@@ -38,11 +38,18 @@ module _ (w : List ℕ) where
     count : length leaves ≡ get_or w 1 0
     count = length-take-le (get_or w 1 0) (drop 2 w) (let e = length-drop 2 w in let l = error-long in omega arith)
 
-    pub spaced-next : (i : ℕ) → i < get_or w 1 0 → spaced i ≡ (bytes " " ++ decimal (get_or w (2 + i) 0)) ++ spaced (i + 1)
+    -- the leaves as a slice of the words
+    items : take (2 + get_or w 1 0 - 2) (drop 2 w) ≡ leaves
+    items = ap (λ (k : ℕ). take k (drop 2 w)) (omega arith)
+
+    pub items-count : length (take (2 + get_or w 1 0 - 2) (drop 2 w)) ≡ get_or w 1 0
+    items-count = ap length items ∙ count
+
+    pub spaced-items : (i : ℕ) → i < get_or w 1 0 → spaced i ≡ (bytes " " ++ decimal (get_or (take (2 + get_or w 1 0 - 2) (drop 2 w)) i 0)) ++ spaced (i + 1)
     unfolding spaced
-    spaced-next i h =
+    spaced-items i h =
         after_next (bytes " ") decimal leaves 0 i (let c = count in omega arith)
-        ∙ ap (λ (x : ℕ). (bytes " " ++ decimal x) ++ spaced (i + 1)) (get_or-take (get_or w 1 0) (drop 2 w) i 0 h ∙ get_or-drop 2 w i 0)
+        ∙ ap (λ (l : List ℕ). (bytes " " ++ decimal (get_or l i 0)) ++ spaced (i + 1)) (sym items)
 
     pub spaced-none : (i : ℕ) → get_or w 1 0 ≤ i → spaced i ≡ []
     unfolding spaced

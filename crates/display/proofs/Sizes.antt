@@ -1,9 +1,9 @@
 -- How long the text of a state is at most. The lines of all its edges together have at most 25 bytes for each byte that leads somewhere: seven
 -- in its class, and 18 for the line, which has one byte at least. Assumes nothing.
+use Rattle.std.specs.Prelude.{Option, Some, None}
 use mathlib.Core.Path.{◌≡◌, refl, ap, ◌∙◌}
 use mathlib.Core.Bool.{true}
 use mathlib.Core.List.{List, [], ◌++◌, map}
-use mathlib.Core.Option.{Option, none, some}
 use Prim.Native.Nat.{ℕ, zero, suc, ◌+◌, ◌*◌, ◌≤◌, ◌<◌}
 use native.Mathlib.Omega.{arith}
 use lib.ListN.{length, get_or, length-append, length-take}
@@ -72,15 +72,15 @@ module _ (st : State) where
 
 -- ---- the other lines
 
-mark-size : (name : List ℕ) (o : Option ℕ) → ((x : ℕ) → o ≡ some x → x < 1000) → length (mark_text name o) ≤ length name + 5
-mark-size name none h = omega arith
-mark-size name (some x) h =
+mark-size : (name : List ℕ) (o : Option ℕ) → ((x : ℕ) → o ≡ Some x → x < 1000) → length (mark_text name o) ≤ length name + 5
+mark-size name None h = omega arith
+mark-size name (Some x) h =
     let d = decimal-size 3 x (omega arith) (h x refl) in
     let m = length-append (decimal x) (bytes ") ") in
     let n = length-append name (decimal x ++ bytes ") ") in
     omega arith
 
-first-size : (s : ℕ) → s < 10000 → (a e : Option ℕ) → ((x : ℕ) → a ≡ some x → x < 1000) → ((x : ℕ) → e ≡ some x → x < 1000) → length (first_line s a e) ≤ 51
+first-size : (s : ℕ) → s < 10000 → (a e : Option ℕ) → ((x : ℕ) → a ≡ Some x → x < 1000) → ((x : ℕ) → e ≡ Some x → x < 1000) → length (first_line s a e) ≤ 51
 unfolding first_line
 first-size s h a e k l =
     let accept = mark_text (bytes "accept(") a in
@@ -93,9 +93,9 @@ first-size s h a e k l =
     let r = length-append early (bytes ") {") in
     omega arith
 
-end-size : (o : Option ℕ) → ((x : ℕ) → o ≡ some x → x < 10000) → length (after (bytes "\n") (end_lines o)) ≤ 21
-end-size none h = omega arith
-end-size (some x) h = let d = decimal-size 4 x (omega arith) (h x refl) in let n = length-append (decimal x) [] in omega arith
+end-size : (o : Option ℕ) → ((x : ℕ) → o ≡ Some x → x < 10000) → length (after (bytes "\n") (end_lines o)) ≤ 21
+end-size None h = omega arith
+end-size (Some x) h = let d = decimal-size 4 x (omega arith) (h x refl) in let n = length-append (decimal x) [] in omega arith
 
 -- ---- a state, of well-formed graph words (refusal 12)
 
@@ -107,11 +107,11 @@ module _ (w : List ℕ) (fits : graph_fits w ≡ true) (small : (i : ℕ) → ge
       let few = taken-few w fits in
       let f = (taken-fits w fits small).states s (rw (from-length w) h) in
       let sum : length (state_text (get_or w 0 0) s st)
-      ≡ length (first_line s st.accept st.early) + (length (after (bytes "\n") (edge_lines (get_or w 0 0) st)) + (length (after (bytes "\n") (end_lines (get_or st.steps end_step none))) + 4)) =
+      ≡ length (first_line s st.accept st.early) + (length (after (bytes "\n") (edge_lines (get_or w 0 0) st)) + (length (after (bytes "\n") (end_lines (get_or st.steps end_step None))) + 4)) =
       ap length (text-parts (get_or w 0 0) s st) ∙ simp length-append in
       let i = first-size s (omega arith) st.accept st.early (λ x e. omega (arith, f.accept-below x e)) (λ x e. omega (arith, f.early-below x e)) in
       let j = edges-size st (get_or w 0 0) (omega arith) in
-      let k = end-size (get_or st.steps end_step none) (λ x e. omega (arith, (from-edge w fits s end_step x e).3)) in
+      let k = end-size (get_or st.steps end_step None) (λ x e. omega (arith, (from-edge w fits s end_step x e).3)) in
       omega arith
 
   -- ---- the graph: a line end for each state but the first

@@ -1,7 +1,6 @@
 -- The text of a graph, as Rust's `Display` of `Graph`, `StateData`, `ByteClass` and `State` gives it, and the lines of the conflicts
 -- (docs/FORMATS.md, "Text of a graph"). Definitions only.
-use Rattle.std.specs.Prelude.{cond, ◌&&◌, ◌||◌, List, [], ◌∷◌, ◌++◌, map, ℕ, ◌+◌, ◌/◌, ◌%◌, eqb, leb, ltb, length, get_or, take, drop}
-use Rattle.std.proofs.Math.Option.{Option, none, some}
+use Rattle.std.specs.Prelude.{cond, ◌&&◌, ◌||◌, List, [], ◌∷◌, ◌++◌, map, ℕ, ◌+◌, ◌/◌, ◌%◌, eqb, leb, ltb, length, get_or, take, drop, Option, Some, None}
 use Prim.Native.Char.{code}
 use Rattle.lists.specs.Lists.{below}
 use Rattle.texts.specs.Text.{bytes, one, decimal, joined}
@@ -16,19 +15,21 @@ use Rattle.graph_rules.specs.Layout.{end_step}
 abbrev pub hex_digit : ℕ → ℕ
 hex_digit d = cond (ltb d 10) (48 + d) (87 + d)
 
--- the letter after the backslash, of a byte that is written so; 0 of another
-unfoldable pub letter_of : ℕ → ℕ
+-- the letter after the backslash, of a byte that is written so
+unfoldable pub letter_of : ℕ → Option ℕ
 letter_of b =
-    cond (eqb b (code "\t")) (code "t")
-    (cond (eqb b (code "\r")) (code "r")
-    (cond (eqb b (code "\n")) (code "n")
-    (cond (eqb b (code "'") || (eqb b (code "\"") || eqb b (code "\\"))) b 0)))
+    cond (eqb b (code "\t")) (Some (code "t"))
+    (cond (eqb b (code "\r")) (Some (code "r"))
+    (cond (eqb b (code "\n")) (Some (code "n"))
+    (cond (eqb b (code "'") || (eqb b (code "\"") || eqb b (code "\\"))) (Some b) None)))
+
+-- a byte that is written after a backslash, by its letter; and any other
+abbrev pub escaped_by : Option ℕ → ℕ → List ℕ
+escaped_by (Some letter) b = bytes "\\" ++ one letter
+escaped_by None b = cond (leb 32 b && leb b 126) (one b) (bytes "\\x" ++ (hex_digit (b / 16) ∷ hex_digit (b % 16) ∷ []))
 
 unfoldable pub escaped : ℕ → List ℕ
-escaped b =
-    cond (ltb 0 (letter_of b)) (bytes "\\" ++ one (letter_of b))
-    (cond (leb 32 b && leb b 126) (one b)
-    (bytes "\\x" ++ (hex_digit (b / 16) ∷ hex_digit (b % 16) ∷ [])))
+escaped b = escaped_by (letter_of b) b
 
 -- ---- a class: its maximal ranges, a range of one byte as that byte
 
@@ -44,8 +45,8 @@ abbrev pub name_of : ℕ → List ℕ
 name_of s = bytes "state" ++ decimal s
 
 abbrev pub mark_text : List ℕ → Option ℕ → List ℕ
-mark_text name none = []
-mark_text name (some leaf) = name ++ (decimal leaf ++ bytes ") ")
+mark_text name None = []
+mark_text name (Some leaf) = name ++ (decimal leaf ++ bytes ") ")
 
 unfoldable pub first_line : ℕ → Option ℕ → Option ℕ → List ℕ
 first_line s accept early =
@@ -59,14 +60,14 @@ abbrev pub edge_lines : ℕ → State → List (List ℕ)
 edge_lines n st = map (λ u. edge_line (class_to st u) u) (targets n st)
 
 abbrev pub end_lines : Option ℕ → List (List ℕ)
-end_lines none = []
-end_lines (some u) = (bytes "    EOI => " ++ name_of u) ∷ []
+end_lines None = []
+end_lines (Some u) = (bytes "    EOI => " ++ name_of u) ∷ []
 
 -- state s, in a graph of n states
 unfoldable pub state_text : ℕ → ℕ → State → List ℕ
 state_text n s st =
     joined (bytes "\n")
-    (first_line s st.accept st.early ∷ (edge_lines n st ++ (end_lines (get_or st.steps end_step none) ++ (bytes "  }" ∷ []))))
+    (first_line s st.accept st.early ∷ (edge_lines n st ++ (end_lines (get_or st.steps end_step None) ++ (bytes "  }" ∷ []))))
 
 -- ---- a graph: its states, ascending
 

@@ -1,18 +1,25 @@
 // The text of a class of bytes (`ByteClass` in the Rust).
-ghost use Rattle.std.specs.Prelude.{◌≡◌, ◌++◌, ◌<◌};
-ghost use Rattle.texts.specs.Text.{bytes, Wrote, Counts};
+ghost use Rattle.std.specs.Prelude.{◌≡◌, ◌<◌};
+ghost use Rattle.texts.specs.Text.{Wrote, Counts};
 ghost use Rattle.display.specs.Display.{hex_digit, letter_of, escaped, range_text, class_text};
 
-// The letter after the backslash, of a byte that is written so; 0 of another.
-fn letter(b: u8) -> u8
+use classes::byte_class::ByteRange;
+
+// The bytes that stand as they are: from the space to the tilde.
+const FIRST_KEPT: u8 = 32;
+
+const LAST_KEPT: u8 = 126;
+
+// The letter after the backslash, of a byte that is written so.
+fn letter(b: u8) -> Option<u8>
     ensures { result ≡ letter_of b }
 {
     match b {
-        b'\t' => b't',
-        b'\r' => b'r',
-        b'\n' => b'n',
-        b'\'' | b'"' | b'\\' => b,
-        _ => 0,
+        b'\t' => Some(b't'),
+        b'\r' => Some(b'r'),
+        b'\n' => Some(b'n'),
+        b'\'' | b'"' | b'\\' => Some(b),
+        _ => None,
     }
 }
 
@@ -29,11 +36,10 @@ fn escape_default(out: &mut [u8], at: usize, b: u8) -> usize
     requires { Counts at (escaped b) }
     ensures { Wrote out.old at (escaped b) out.new result }
 {
-    let letter = letter(b);
-    if 0 < letter {
+    if let Some(letter) = letter(b) {
         return texts::pair(out, at, b'\\', letter);
     }
-    if 32 <= b && b <= 126 {
+    if FIRST_KEPT <= b && b <= LAST_KEPT {
         return texts::byte(out, at, b);
     }
     let next = texts::pair(out, at, b'\\', b'x');
@@ -41,25 +47,16 @@ fn escape_default(out: &mut [u8], at: usize, b: u8) -> usize
 }
 
 // A range: its first byte, and its last if that is another.
-fn range(out: &mut [u8], at: usize, first: u8, last: u8) -> usize
-    requires { Counts at (range_text first last) }
-    ensures { Wrote out.old at (range_text first last) out.new result }
+fn range(out: &mut [u8], at: usize, range: ByteRange) -> usize
+    requires { Counts at (range_text range.first range.last) }
+    ensures { Wrote out.old at (range_text range.first range.last) out.new result }
 {
-    if first == last {
-        return escape_default(out, at, first);
+    let next = escape_default(out, at, range.first);
+    if range.first == range.last {
+        return next;
     }
-    let next = escape_default(out, at, first);
     let next = texts::bytes(out, next, b"..=");
-    escape_default(out, next, last)
-}
-
-// A range after a bar.
-fn next_range(out: &mut [u8], at: usize, first: u8, last: u8) -> usize
-    requires { Counts at (bytes "|" ++ range_text first last) }
-    ensures { Wrote out.old at (bytes "|" ++ range_text first last) out.new result }
-{
-    let next = texts::byte(out, at, b'|');
-    range(out, next, first, last)
+    escape_default(out, next, range.last)
 }
 
 // A class: its maximal ranges, with a bar between two.
@@ -68,15 +65,13 @@ pub(crate) fn class(out: &mut [u8], at: usize, class: &[bool; 256]) -> usize
     ensures { Wrote out.old at (class_text class.now) out.new result }
 {
     let held = classes::byte_class::ranges(class);
-    let count = held.count;
-    if count == 0 {
+    let [first, rest @ ..] = &held.ranges[..held.count] else {
         return at;
-    }
-    let mut next = range(out, at, held.first[0], held.last[0]);
-    let mut i: usize = 1;
-    while i < count {
-        next = next_range(out, next, held.first[i], held.last[i]);
-        i += 1;
+    };
+    let mut next = range(out, at, *first);
+    for other in rest {
+        next = texts::byte(out, next, b'|');
+        next = range(out, next, *other);
     }
     next
 }

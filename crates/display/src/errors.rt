@@ -1,49 +1,49 @@
 // The line of a conflict (`GraphError` in the Rust), from its words: kind, leaf count, leaves.
-ghost use Rattle.std.specs.Prelude.{◌≡◌, true, ◌++◌, length};
-ghost use Rattle.texts.specs.Text.{bytes, decimal, Wrote, Counts};
+ghost use Rattle.std.specs.Prelude.{◌≡◌, true, false, MatchResult};
+ghost use Rattle.refusals.specs.declared.Refusal.TheVariants.{ErrorRoom};
 ghost use Rattle.display.specs.Display.{line_of};
 ghost use Rattle.display.specs.Answers.{error_fits};
 
+use crate::text::Text;
+use refusals::Refusal;
+
+// Words that begin with a conflict.
+#[derive(Clone, Copy)]
+pub struct Conflict<'a> {
+    pub words: &'a [u16],
+    pub ghost fits: { error_fits words.now ≡ true },
+}
+
+impl<'a> Conflict<'a> {
+    // The conflict that these words begin with; refused by 9 where they end before it does.
+    pub fn new(words: &'a [u16]) -> Result<Conflict<'a>, Refusal>
+        ensures { MatchResult result (λ conflict. (conflict.words.now ≡ words.now) × (error_fits words.now ≡ true)) (λ refusal. (refusal ≡ ErrorRoom) × (error_fits words.now ≡ false)) }
+    {
+        if fits(words) {
+            Ok(Conflict { words })
+        } else {
+            Err(Refusal::ErrorRoom)
+        }
+    }
+}
+
 // Whether the words begin with a conflict.
-pub(crate) fn fits(errors: &[u16]) -> bool
-    ensures { result ≡ error_fits errors.now }
+fn fits(words: &[u16]) -> bool
+    ensures { result ≡ error_fits words.now }
 {
-    if errors.len() < 2 {
-        return false;
+    2 <= words.len() && 2 + words[1] as usize <= words.len()
+}
+
+impl Text for Conflict<'_> {
+    ghost text = { λ conflict. line_of conflict.words.now };
+
+    // The kind, and each leaf after a space.
+    fn write(&self, out: &mut [u8], at: usize) -> usize {
+        let words = self.words;
+        let mut next = texts::numbered(out, at, b"error ", words[0] as usize);
+        for leaf in &words[2..2 + words[1] as usize] {
+            next = texts::numbered(out, next, b" ", *leaf as usize);
+        }
+        next
     }
-    2 + words::word(errors, 1) <= errors.len()
-}
-
-// A leaf after a space.
-fn next_leaf(out: &mut [u8], at: usize, leaf: usize) -> usize
-    requires { Counts at (bytes " " ++ decimal leaf) }
-    ensures { Wrote out.old at (bytes " " ++ decimal leaf) out.new result }
-{
-    texts::numbered(out, at, b" ", leaf)
-}
-
-// The line of the conflict that the words begin with.
-pub fn line(out: &mut [u8], at: usize, errors: &[u16]) -> usize
-    requires errors_value { error_fits errors.now ≡ true }
-    requires counts { Counts at (line_of errors.now) }
-    ensures { Wrote out.old at (line_of errors.now) out.new result }
-{
-    let kind = words::word(errors, 0);
-    let count = words::word(errors, 1);
-    let mut next = texts::numbered(out, at, b"error ", kind);
-    let mut i: usize = 0;
-    while i < count {
-        next = next_leaf(out, next, words::word(errors, 2 + i));
-        i += 1;
-    }
-    next
-}
-
-// The length of that line.
-pub(crate) fn length(errors: &[u16]) -> usize
-    requires { error_fits errors.now ≡ true }
-    ensures { result ≡ length (line_of errors.now) }
-{
-    let mut none = [0u8; 0];
-    line(&mut none, 0, errors)
 }

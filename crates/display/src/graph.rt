@@ -1,46 +1,26 @@
 // The text of a graph (`Graph` in the Rust).
-ghost use Rattle.std.specs.Prelude.{◌≡◌, true, ◌++◌, ◌<◌, length, get_or};
-ghost use Rattle.texts.specs.Text.{bytes, Wrote, Counts};
-ghost use Rattle.graph_rules.specs.Graph.{state_of, graph_from, graph_fits};
-ghost use Rattle.display.specs.Display.{state_text, displayed};
+ghost use Rattle.graph_rules.specs.Graph.{graph_from};
+ghost use Rattle.display.specs.Display.{displayed};
 
 use crate::state;
+use crate::text::Text;
+use words::graph::Graph;
 
-// State s after a line end.
-fn next_state(out: &mut [u8], at: usize, graph: &[u16], s: usize) -> usize
-    requires graph_value { graph_fits graph.now ≡ true }
-    requires s_bound { s < get_or graph.now 0 0 }
-    requires counts { Counts at (bytes "\n" ++ state_text (get_or graph.now 0 0) s (state_of (graph_from graph.now) s)) }
-    ensures { Wrote out.old at (bytes "\n" ++ state_text (get_or graph.now 0 0) s (state_of (graph_from graph.now) s)) out.new result }
-{
-    let next = texts::byte(out, at, b'\n');
-    state::state(out, next, graph, s)
-}
+impl Text for Graph<'_> {
+    ghost text = { λ graph. displayed (graph_from graph.words.now) };
 
-// The states of a graph, ascending, with a line end between two.
-pub fn states(out: &mut [u8], at: usize, graph: &[u16]) -> usize
-    requires graph_value { graph_fits graph.now ≡ true }
-    requires counts { Counts at (displayed (graph_from graph.now)) }
-    ensures { Wrote out.old at (displayed (graph_from graph.now)) out.new result }
-{
-    let n = words::graph::states(graph);
-    if n == 0 {
-        return at;
+    // The states, ascending, with a line end between two.
+    fn write(&self, out: &mut [u8], at: usize) -> usize {
+        let graph = *self;
+        let n = graph.states();
+        if n == 0 {
+            return at;
+        }
+        let mut next = state::state(out, at, graph, 0);
+        for s in 1..n {
+            next = texts::byte(out, next, b'\n');
+            next = state::state(out, next, graph, s);
+        }
+        next
     }
-    let mut next = state::state(out, at, graph, 0);
-    let mut s: usize = 1;
-    while s < n {
-        next = next_state(out, next, graph, s);
-        s += 1;
-    }
-    next
-}
-
-// The length of a graph's text.
-pub(crate) fn length(graph: &[u16]) -> usize
-    requires { graph_fits graph.now ≡ true }
-    ensures { result ≡ length (displayed (graph_from graph.now)) }
-{
-    let mut none = [0u8; 0];
-    states(&mut none, 0, graph)
 }

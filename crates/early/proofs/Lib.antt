@@ -1,1 +1,2 @@
 pub mod Children
+pub mod Marks

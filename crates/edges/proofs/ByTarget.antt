@@ -1,9 +1,9 @@
 -- The edges of a state by target: each byte is in the class of its own target and of no other, and the targets are the states that a byte leads
 -- to, ascending. Assumes nothing.
+use Rattle.std.specs.Prelude.{Some, None}
 use mathlib.Core.Path.{◌≡◌, ap, ◌∙◌}
 use mathlib.Core.Bool.{Bool, true, false}
 use mathlib.Core.List.{List}
-use mathlib.Core.Option.{none, some}
 use Prim.Native.Nat.{ℕ, ◌≤◌, ◌<◌}
 use lib.Dec.{eqb}
 use lib.ListN.{length, get_or, get_or-map, length-map}
@@ -19,17 +19,17 @@ use Rattle.edges.specs.Edges.{bytes_of, class_to, leads_to, targets}
 use Rattle.graph_rules.specs.Layout.{most_states}
 
 module _ (st : State) where
-  pub class-flag : (u b : ℕ) → has (class_to st u) b ≡ eq_option (some u) (get_or (bytes_of st) b none)
+  pub class-flag : (u b : ℕ) → has (class_to st u) b ≡ eq_option (Some u) (get_or (bytes_of st) b None)
   unfolding class_to
-  class-flag u b = get_or-map (eq_option (some u)) (bytes_of st) b none
+  class-flag u b = get_or-map (eq_option (Some u)) (bytes_of st) b None
 
   -- a class has 256 flags
   pub class-whole : 256 ≤ length st.steps → (u : ℕ) → length (class_to st u) ≡ 256
   unfolding class_to
-  class-whole h u = length-map (bytes_of st) (eq_option (some u)) ∙ length-take-le 256 st.steps h
+  class-whole h u = length-map (bytes_of st) (eq_option (Some u)) ∙ length-take-le 256 st.steps h
 
   -- where a byte leads, an edge leads
-  pub byte-leads : (b u : ℕ) → get_or (bytes_of st) b none ≡ some u → leads_to st u ≡ true
+  pub byte-leads : (b u : ℕ) → get_or (bytes_of st) b None ≡ Some u → leads_to st u ≡ true
   unfolding leads_to
   byte-leads b u e = option-any (bytes_of st) b u e
 

@@ -1,5 +1,6 @@
 -- Of every clean table, and of one that is clean but for ties: every state of the words that the build returned is reached from their root by byte and
 -- end edges. Assumes nothing.
+use Rattle.std.specs.Prelude.{Ok}
 use mathlib.Core.Path.{◌≡◌, sym, ap, subst, ◌∙◌}
 use mathlib.Core.List.{List, []}
 use Prim.Native.Nat.{ℕ, ◌<◌}
@@ -10,11 +11,10 @@ use Rattle.graph_rules.specs.Build.{build, empty_leaves}
 use Rattle.graph_rules.specs.Read.{Orderly, Clean}
 use Rattle.graph_rules.proofs.Promises.{built-back, clean-no-empty, tied-reached as build-reached}
 use Rattle.graph.specs.declared.new.Counts.{Counts}
-use Rattle.graph.specs.declared.new.BuildAnswer.TheVariants.{Built as Made}
 use Rattle.graph.specs.New.{new_of}
 use Rattle.graph.proofs.Outcomes.{answered, words-first}
 
-module _ (table graph errors : List ℕ) (c : Counts) (made : (new_of table graph errors).answer ≡ Made c) where
+module _ (table graph errors : List ℕ) (c : Counts) (made : (new_of table graph errors).answer ≡ Ok c) where
   -- read back, the words are the build's graph
   pub returned-back : graph_from (new_of table graph errors).graph ≡ (build (table_of table)).graph
   returned-back = ap graph_from (words-first table graph errors c made) ∙ built-back table (answered table graph errors c made).legal _

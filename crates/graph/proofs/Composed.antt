@@ -1,7 +1,7 @@
 -- Rules 2 to 8, one after another on the lent words, are the build. Assumes nothing.
+use Rattle.std.specs.Prelude.{Some}
 use mathlib.Core.Path.{◌≡◌}
 use mathlib.Core.List.{List}
-use mathlib.Core.Option.{some}
 use Prim.Native.Nat.{ℕ, ◌≤◌}
 use native.Mathlib.Omega.{arith}
 use lib.ListN.{length, get_or}
@@ -14,7 +14,7 @@ use Rattle.graph_rules.proofs.Shape.{few-states, few-leaves}
 use Rattle.rows.specs.Renumbering.{first_graph}
 use Rattle.graph.proofs.Stages.{Stage, stage-next}
 
-module _ (table : List ℕ) (legal : refusal table ≡ 0) (start : ℕ) (st : (table_of table).start ≡ some start) (found : List ℕ) where
+module _ (table : List ℕ) (legal : refusal table ≡ 0) (start : ℕ) (st : (table_of table).start ≡ Some start) (found : List ℕ) where
   abbrev n : ℕ
   n = get_or table 0 0
 

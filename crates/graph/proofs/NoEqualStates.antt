@@ -1,5 +1,6 @@
 -- Of every table: no two states of the words that the build returned have the same marks, 256 targets and end target. The counts that are answered
 -- are those of the lists. Assumes nothing.
+use Rattle.std.specs.Prelude.{Ok}
 use mathlib.Core.Path.{◌≡◌, sym, ap, subst, ◌∙◌}
 use mathlib.Core.List.{List}
 use Prim.Native.Nat.{ℕ, ◌<◌}
@@ -9,12 +10,11 @@ use Rattle.graph_rules.specs.Graph.{Graph, state_of, graph_from}
 use Rattle.graph_rules.specs.Build.{build}
 use Rattle.graph_rules.proofs.Promises.{no-equal-states}
 use Rattle.graph.specs.declared.new.Counts.{Counts}
-use Rattle.graph.specs.declared.new.BuildAnswer.TheVariants.{Built as Made}
 use Rattle.graph.specs.New.{conflicts, new_of}
 use Rattle.graph.proofs.Outcomes.{answered}
 use Rattle.graph.proofs.AllReached.{returned-back}
 
-module _ (table graph errors : List ℕ) (c : Counts) (made : (new_of table graph errors).answer ≡ Made c) where
+module _ (table graph errors : List ℕ) (c : Counts) (made : (new_of table graph errors).answer ≡ Ok c) where
   abbrev returned : Graph
   returned = graph_from (new_of table graph errors).graph
 

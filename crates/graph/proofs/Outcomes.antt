@@ -2,7 +2,6 @@
 use mathlib.Core.Path.{◌≡◌, sym, ap, ◌∙◌}
 use mathlib.Core.List.{List, ◌++◌, append_assoc}
 use Prim.Native.Nat.{ℕ, ◌-◌, ◌*◌}
-use native.Mathlib.Omega.{arith}
 use borrow.Author.Tests.{eqb-true}
 use lib.Dec.{eqb, ltb}
 use lib.ListN.{length, get_or, drop, replicate}
@@ -10,8 +9,10 @@ use Rattle.lists.proofs.Bools.{Is, is, yes-is, no-is}
 use Rattle.graph_rules.specs.Table.{table_of, refusal}
 use Rattle.graph_rules.specs.Graph.{graph_words, graph_buffer}
 use Rattle.graph_rules.specs.Build.{Built, build}
+use Rattle.std.specs.Prelude.{Result, Ok, Err}
+use Rattle.refusals.specs.Refusals.{numbered}
+use Rattle.refusals.specs.declared.Refusal.{Refusal}
 use Rattle.graph.specs.declared.new.Counts.{Counts}
-use Rattle.graph.specs.declared.new.BuildAnswer.TheVariants.{Built as Made, Refused}
 use Rattle.graph.specs.New.{Outcome, refused_by, conflicts, counts_of, wrote, wrote_or_9, written_or, new_of}
 use Rattle.graph_rules.specs.Layout.{row_words, graph_size}
 
@@ -21,20 +22,20 @@ pub record Answered (table graph errors : List ℕ) (c : Counts) : Type 0 where
   pub outcome : new_of table graph errors ≡ wrote (get_or table 0 0) (build (table_of table)) graph errors
   pub counts : c ≡ counts_of (build (table_of table))
 
-not_made : {c : Counts} {n : ℕ} → Refused n ≡ Made c → ⊥
-not_made e = let z : ◌≡◌ {A = ℕ} 0 1 = cc in omega arith
+not_made : {c : Counts} {r : Refusal} → ◌≡◌ {A = Result Counts Refusal} (Err r) (Ok c) → ⊥
+not_made e = cc
 
-same-counts : {a b : Counts} → Made a ≡ Made b → b ≡ a
+same-counts : {a b : Counts} → ◌≡◌ {A = Result Counts Refusal} (Ok a) (Ok b) → b ≡ a
 same-counts e = cc
 
-module _ (table graph errors : List ℕ) (c : Counts) (made : (new_of table graph errors).answer ≡ Made c) where
+module _ (table graph errors : List ℕ) (c : Counts) (made : (new_of table graph errors).answer ≡ Ok c) where
   abbrev b : Built
   b = build (table_of table)
 
   abbrev n : ℕ
   n = get_or table 0 0
 
-  written : (written_or n b graph errors).answer ≡ Made c → written_or n b graph errors ≡ wrote n b graph errors
+  written : (written_or n b graph errors).answer ≡ Ok c → written_or n b graph errors ≡ wrote n b graph errors
   unfolding written_or wrote_or_9
   written e = go (is (ltb (length graph) (graph_size n))) (is (ltb (length errors) (length (conflicts b))))
     where
@@ -55,7 +56,7 @@ module _ (table graph errors : List ℕ) (c : Counts) (made : (new_of table grap
       }
   is-legal (no-is q) = absurd (not_made (ap (λ (x : Outcome). x.answer) (sym o) ∙ made))
     where
-      o : new_of table graph errors ≡ refused_by (refusal table) graph errors
+      o : new_of table graph errors ≡ refused_by (numbered (refusal table)) graph errors
       o = rw (q, new_of)
 
   pub answered : Answered table graph errors c

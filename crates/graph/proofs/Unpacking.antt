@@ -8,6 +8,7 @@ use borrow.Author.Tests.{eq-eqb, ne_eqb, lt-ltb, le-ltb}
 use lib.ListN.{length, get_or, take, drop, set, replicate, length-append}
 use lib.Seq.{take-suc, take_all, take_at, length-take-le}
 use Rattle.lists.proofs.Buffers.{Filled, filled_none, filled-one}
+use Rattle.refusals.specs.declared.Refusal.TheVariants.{ImageLength}
 use Rattle.graph.specs.New.{refused_by, new_of, words_of, image_of}
 
 pub words-length : (image : List ℕ) → length (words_of image) ≡ length image / 2
@@ -56,11 +57,11 @@ module _ (image found : List ℕ) (room : length image / 2 ≤ length found) whe
 -- ---- the call
 
 module _ (image graph errors : List ℕ) where
-  pub image-odd : length image % 2 ≡ 1 → refused_by 13 graph errors ≡ image_of image graph errors
+  pub image-odd : length image % 2 ≡ 1 → refused_by ImageLength graph errors ≡ image_of image graph errors
   unfolding image_of
   image-odd e = rw (eq-eqb (length image % 2) 1 e)
 
-  pub image-long : (length image % 2 ≡ 1 → ⊥) → 65536 < length image → refused_by 13 graph errors ≡ image_of image graph errors
+  pub image-long : (length image % 2 ≡ 1 → ⊥) → 65536 < length image → refused_by ImageLength graph errors ≡ image_of image graph errors
   unfolding image_of
   image-long n h = rw (ne_eqb (length image % 2) 1 n) (rw (lt-ltb 65536 (length image) h))
 

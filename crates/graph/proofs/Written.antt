@@ -1,4 +1,5 @@
 -- The ways of writing a build: refused by 9, or both buffers written; a graph without states. Assumes nothing.
+use Rattle.std.specs.Prelude.{Ok}
 use mathlib.Core.Path.{◌≡◌, sym, ap, ◌∙◌}
 use mathlib.Core.List.{List, [], ◌∷◌, ◌++◌, flat_map}
 use Prim.Native.Nat.{ℕ, ◌-◌, ◌*◌, ◌≤◌, ◌<◌}
@@ -16,21 +17,21 @@ use Rattle.graph_rules.specs.Graph.{graph_words, graph_buffer, written_on}
 use Rattle.graph_rules.specs.Build.{Built, empty_leaves}
 use Rattle.graph_rules.proofs.Shape.{few-leaves}
 use Rattle.conflicts.specs.Listed.{listed}
+use Rattle.refusals.specs.declared.Refusal.TheVariants.{ErrorRoom}
 use Rattle.graph.specs.declared.new.Counts.{Counts}
-use Rattle.graph.specs.declared.new.BuildAnswer.TheVariants.{Built as Made}
 use Rattle.graph.specs.New.{refused_by, conflicts, counts_of, wrote, wrote_or_9}
 use Rattle.graph_rules.specs.Layout.{row_words, graph_size, most_leaves}
 
 module _ (n : ℕ) (b : Built) (graph errors : List ℕ) where
-  pub short : length errors < length (conflicts b) → refused_by 9 graph errors ≡ wrote_or_9 n b graph errors
+  pub short : length errors < length (conflicts b) → refused_by ErrorRoom graph errors ≡ wrote_or_9 n b graph errors
   unfolding wrote_or_9
   short h = rw (lt-ltb (length errors) (length (conflicts b)) h)
 
   pub enough : length (conflicts b) ≤ length errors → (g e : List ℕ) (c : Counts)
       → g ≡ written_on n b.graph graph → e ≡ listed b.errors errors → c ≡ counts_of b
-      → record { answer = Made c; graph = g; errors = e } ≡ wrote_or_9 n b graph errors
+      → record { answer = Ok c; graph = g; errors = e } ≡ wrote_or_9 n b graph errors
   unfolding wrote_or_9 wrote conflicts
-  enough h g e c p q r = rw (le-ltb (length errors) (length (conflicts b)) h) (λ i. record { answer = Made (r i); graph = p i; errors = q i })
+  enough h g e c p q r = rw (le-ltb (length errors) (length (conflicts b)) h) (λ i. record { answer = Ok (r i); graph = p i; errors = q i })
 
 -- ---- a graph without states
 

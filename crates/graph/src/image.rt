@@ -2,16 +2,14 @@
 ghost use Rattle.std.specs.Prelude.{◌≡◌, ◌++◌, ◌+◌, ◌*◌, ◌/◌, ◌≤◌, ◌<◌, length, get_or, drop};
 ghost use Rattle.graph.specs.New.{words_of, image_of};
 
-use crate::new::BuildAnswer;
+use crate::new::Counts;
+use refusals::Refusal;
 
-// Word i of an image.
-fn word(image: &[u8], i: usize) -> u16
-    requires { 2 * i + 1 < length image.now }
-    ensures { result ≡ get_or image.now (2 * i) 0 + 256 * get_or image.now (2 * i + 1) 0 }
+// The word of two bytes.
+fn word(low: u8, high: u8) -> u16
+    ensures { result ≡ low + 256 * high }
 {
-    let low = image[2 * i] as u16;
-    let high = image[2 * i + 1] as u16;
-    low + 256 * high
+    low as u16 + 256 * high as u16
 }
 
 // The words of an image, written into a lent buffer; the rest of the buffer stays.
@@ -19,23 +17,18 @@ fn unpack(image: &[u8], out: &mut [u16])
     requires { length image.now / 2 ≤ length out.old }
     ensures { out.new ≡ words_of image.now ++ drop (length image.now / 2) out.old }
 {
-    let n = image.len() / 2;
-    let mut i: usize = 0;
-    while i < n {
-        out[i] = word(image, i);
-        i += 1;
+    // By index: the definition takes two bytes a word, and no law of the library says so of chunks.
+    for i in 0..image.len() / 2 {
+        out[i] = word(image[2 * i], image[2 * i + 1]);
     }
 }
 
 // The build of a table from its image; or 13, and then 1 to 9, and both buffers as they were.
-pub fn from_image(image: &[u8], graph: &mut [u16], errors: &mut [u16]) -> BuildAnswer
+pub fn from_image(image: &[u8], graph: &mut [u16], errors: &mut [u16]) -> Result<Counts, Refusal>
     ensures { record { answer = result; graph = graph.new; errors = errors.new } ≡ image_of image.now graph.old errors.old }
 {
-    if image.len() % 2 == 1 {
-        return BuildAnswer::Refused(13);
-    }
-    if 65536 < image.len() {
-        return BuildAnswer::Refused(13);
+    if image.len() % 2 == 1 || 65536 < image.len() {
+        return Err(Refusal::ImageLength);
     }
     let mut space = [0u16; 32768];
     unpack(image, &mut space);

@@ -1,17 +1,19 @@
 // The build (docs/RULES.md, "The build"): from a table's words to the graph's words and the conflicts. All that can refuse is decided before a word
 // is written.
-ghost use Rattle.std.specs.Prelude.{◌≡◌, true, false, [], ◌∷◌, ◌++◌, map, ◌-◌, ◌*◌, ◌≤◌, length, get_or, replicate};
-ghost use Rattle.std.proofs.Math.Option.{some};
-ghost use Rattle.graph_rules.specs.Table.{table_of, refusal};
+ghost use Rattle.std.specs.Prelude.{◌≡◌, true, false, [], ◌∷◌, ◌++◌, map, ◌-◌, ◌*◌, ◌≤◌, length, get_or, replicate, Some};
+ghost use Rattle.graph_rules.specs.Table.{table_of};
 ghost use Rattle.graph_rules.specs.Graph.{graph_fits, written_on};
 ghost use Rattle.graph_rules.specs.Build.{no_universal_start, empty_match, empty_leaves, no_states, reached, unpruned, pruned, merged, build_from};
 ghost use Rattle.graph.specs.New.{wrote_or_9, new_of};
 ghost use Rattle.graph_rules.specs.Layout.{most_states, graph_size};
 
-use words::{NONE, STATES};
+use legal::Table;
+use refusals::Refusal;
+use words::STATES;
+use words::graph::{Graph, place};
 
 // How many states the graph has, its root, how many errors there are, and how many words they take.
-#[derive(Clone, Copy)]
+#[derive(Clone, Copy, PartialEq, Eq)]
 pub struct Counts {
     pub states: usize,
     pub root: usize,
@@ -19,34 +21,25 @@ pub struct Counts {
     pub words: usize,
 }
 
-#[derive(Clone, Copy)]
-pub enum BuildAnswer {
-    Built(Counts),
-    Refused(u8),
-}
-
-// No states: the count and the root are 0, and so is every word up to those of n states.
-fn no_states(graph: &mut [u16], n: usize)
-    requires n_le_most_states { n ≤ most_states }
-    requires n_in_bounds { graph_size n ≤ length graph.old }
-    ensures { graph.new ≡ written_on n (record { states = []; root = 0 }) graph.old }
+// No states: the count and the root are 0, and so is every word up to those of the table's states.
+fn no_states(table: Table<'_>, graph: &mut [u16])
+    requires { graph_size (get_or table.words.now 0 0) ≤ length graph.old }
+    ensures { graph.new ≡ written_on (get_or table.entry.words.now 0 0) (record { states = []; root = 0 }) graph.old }
 {
-    let end = words::graph::place(n, 0);
-    words::zero(graph, 0, end);
+    words::zero(graph, 0, place(table.states(), 0));
 }
 
 // Rule 1, where there is no universal start.
-fn without_start(n: usize, graph: &mut [u16], errors: &mut [u16]) -> BuildAnswer
-    requires n_le_most_states { n ≤ most_states }
-    requires n_in_bounds { graph_size n ≤ length graph.old }
-    ensures { record { answer = result; graph = graph.new; errors = errors.new } ≡ wrote_or_9 n (no_states (no_universal_start ∷ [])) graph.old errors.old }
+fn without_start(table: Table<'_>, graph: &mut [u16], errors: &mut [u16]) -> Result<Counts, Refusal>
+    requires { graph_size (get_or table.words.now 0 0) ≤ length graph.old }
+    ensures { record { answer = result; graph = graph.new; errors = errors.new } ≡ wrote_or_9 (get_or table.entry.words.now 0 0) (no_states (no_universal_start ∷ [])) graph.old errors.old }
 {
     if errors.len() < 2 {
-        return BuildAnswer::Refused(9);
+        return Err(Refusal::ErrorRoom);
     }
     conflicts::write_no_start(errors);
-    no_states(graph, n);
-    BuildAnswer::Built(Counts {
+    no_states(table, graph);
+    Ok(Counts {
         states: 0,
         root: 0,
         errors: 1,
@@ -56,39 +49,36 @@ fn without_start(n: usize, graph: &mut [u16], errors: &mut [u16]) -> BuildAnswer
 
 // Rule 1, where `count` leaves can match empty text.
 fn with_empty(
-    table: &[u16],
+    table: Table<'_>,
     count: usize,
-    n: usize,
     graph: &mut [u16],
     errors: &mut [u16],
-) -> BuildAnswer
-    requires table_value { refusal table.now ≡ 0 }
-    requires count_value { count ≡ length (empty_leaves (table_of table.now)) }
-    requires n_le_most_states { n ≤ most_states }
-    requires n_in_bounds { graph_size n ≤ length graph.old }
-    ensures { record { answer = result; graph = graph.new; errors = errors.new } ≡ wrote_or_9 n (no_states (map empty_match (empty_leaves (table_of table.now)))) graph.old errors.old }
+) -> Result<Counts, Refusal>
+    requires count_value { count ≡ length (empty_leaves (table_of table.words.now)) }
+    requires room { graph_size (get_or table.words.now 0 0) ≤ length graph.old }
+    ensures { record { answer = result; graph = graph.new; errors = errors.new } ≡ wrote_or_9 (get_or table.entry.words.now 0 0) (no_states (map empty_match (empty_leaves (table_of table.entry.words.now)))) graph.old errors.old }
 {
     let words = 3 * count;
     if errors.len() < words {
-        return BuildAnswer::Refused(9);
+        return Err(Refusal::ErrorRoom);
     }
     conflicts::write_empty(table, errors);
-    no_states(graph, n);
-    BuildAnswer::Built(Counts {
+    no_states(table, graph);
+    Ok(Counts {
         states: 0,
         root: 0,
         errors: count,
-        words: words,
+        words,
     })
 }
 
-// Rules 2 to 8: the graph of the states that are reached, written.
-fn write_graph(table: &[u16], start: usize, set: &[bool; STATES], graph: &mut [u16])
-    requires table_value { refusal table.now ≡ 0 }
-    requires table_value_2 { (table_of table.now).start ≡ some start }
-    requires set_value { set.now ≡ reached (table_of table.now) start ++ replicate (most_states - get_or table.now 0 0) false }
-    requires table_in_bounds { graph_size (get_or table.now 0 0) ≤ length graph.old }
-    ensures graph_after { graph.new ≡ written_on (get_or table.now 0 0) (merged (pruned (unpruned (table_of table.now) start))).graph graph.old }
+// Rules 2 to 8: the graph of the states that are reached, written. Each rule lends the words as they are: a struct round a `&mut` would owe that they
+// are well-formed at each single write.
+fn write_graph(table: Table<'_>, start: usize, set: &[bool; STATES], graph: &mut [u16])
+    requires start_value { (table_of table.words.now).start ≡ Some start }
+    requires set_value { set.now ≡ reached (table_of table.words.now) start ++ replicate (most_states - get_or table.words.now 0 0) false }
+    requires room { graph_size (get_or table.words.now 0 0) ≤ length graph.old }
+    ensures graph_after { graph.new ≡ written_on (get_or table.entry.words.now 0 0) (merged (pruned (unpruned (table_of table.entry.words.now) start))).graph graph.old }
     ensures graph_after_2 { graph_fits graph.new ≡ true }
 {
     // Rules 2 to 4: the reached states, renumbered, each with its leaf.
@@ -105,54 +95,45 @@ fn write_graph(table: &[u16], start: usize, set: &[bool; STATES], graph: &mut [u
 
 // Rules 2 to 8, from a start, where no leaf can match empty text.
 fn with_states(
-    table: &[u16],
+    table: Table<'_>,
     start: usize,
-    n: usize,
     graph: &mut [u16],
     errors: &mut [u16],
-) -> BuildAnswer
-    requires table_value { refusal table.now ≡ 0 }
-    requires table_value_2 { (table_of table.now).start ≡ some start }
-    requires n_value { n ≡ get_or table.now 0 0 }
-    requires n_in_bounds { graph_size n ≤ length graph.old }
-    ensures { record { answer = result; graph = graph.new; errors = errors.new } ≡ wrote_or_9 n (build_from (table_of table.now) (some start) []) graph.old errors.old }
+) -> Result<Counts, Refusal>
+    requires start_value { (table_of table.words.now).start ≡ Some start }
+    requires room { graph_size (get_or table.words.now 0 0) ≤ length graph.old }
+    ensures { record { answer = result; graph = graph.new; errors = errors.new } ≡ wrote_or_9 (get_or table.entry.words.now 0 0) (build_from (table_of table.entry.words.now) (Some start) []) graph.old errors.old }
 {
     let set = reach::reached(table, start);
     let ties = conflicts::tie_words(table, &set);
     if errors.len() < ties.words {
-        return BuildAnswer::Refused(9);
+        return Err(Refusal::ErrorRoom);
     }
     conflicts::write_ties(table, &set, errors);
     write_graph(table, start, &set, graph);
-    let states = words::graph::states(graph);
-    let root = words::graph::root(graph);
-    BuildAnswer::Built(Counts {
-        states: states,
-        root: root,
+    let built = Graph { words: graph };
+    Ok(Counts {
+        states: built.states(),
+        root: built.root(),
         errors: ties.errors,
         words: ties.words,
     })
 }
 
 // The build of a table: its graph and its errors, written into the lent words; or 1 to 9, and both buffers as they were.
-pub fn new(table: &[u16], graph: &mut [u16], errors: &mut [u16]) -> BuildAnswer
+pub fn new(table: &[u16], graph: &mut [u16], errors: &mut [u16]) -> Result<Counts, Refusal>
     ensures { record { answer = result; graph = graph.new; errors = errors.new } ≡ new_of table.now graph.old errors.old }
 {
-    let refusal = legal::check(table);
-    if refusal != 0 {
-        return BuildAnswer::Refused(refusal as u8);
+    let table = Table::new(table)?;
+    if graph.len() < place(table.states(), 0) {
+        return Err(Refusal::GraphRoom);
     }
-    let n = words::table::states(table);
-    if graph.len() < words::graph::place(n, 0) {
-        return BuildAnswer::Refused(8);
-    }
-    let start = words::table::start(table);
-    if start == NONE {
-        return without_start(n, graph, errors);
-    }
+    let Some(start) = table.start() else {
+        return without_start(table, graph, errors);
+    };
     let count = conflicts::count_empty(table);
     if count != 0 {
-        return with_empty(table, count, n, graph, errors);
+        return with_empty(table, count, graph, errors);
     }
-    with_states(table, start, n, graph, errors)
+    with_states(table, start, graph, errors)
 }

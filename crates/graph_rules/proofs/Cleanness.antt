@@ -1,9 +1,9 @@
 -- Clean tables both ways (`clean-means`, `clean-shown`): a legal table that the test finds clean is `Clean`, and one that is `Clean` is found so.
 -- Each rule goes by its own test: where it is broken at no state, it holds, and the other way round. Assumes nothing.
+use Rattle.std.specs.Prelude.{Option, Some, None}
 use mathlib.Core.Path.{◌≡◌, refl, sym, ap, ◌∙◌}
 use mathlib.Core.Bool.{Bool, true, false, cond, false≢true}
 use mathlib.Core.List.{List, [], ◌∷◌, map}
-use mathlib.Core.Option.{Option, none, some}
 use Prim.Native.Nat.{ℕ, ◌<◌}
 use native.Mathlib.Omega.{arith}
 use borrow.Author.Tests.{eqb-true, eq-eqb}
@@ -26,25 +26,25 @@ use Rattle.graph_rules.proofs.Unpruned.{reached-below}
 use Rattle.graph_rules.specs.Layout.{end_step, step_count}
 
 -- the three places, where no rule is broken
-all-unbroken : (a b c : Option ℕ) → unbroken (first_breach 1 (a ∷ b ∷ c ∷ [])) ≡ true → (a ≡ none) × (b ≡ none) × (c ≡ none)
-all-unbroken none none none e = (refl, refl, refl)
-all-unbroken none none (some s) e = absurd (false≢true e)
-all-unbroken none (some s) c e = absurd (false≢true e)
-all-unbroken (some s) b c e = absurd (false≢true e)
+all-unbroken : (a b c : Option ℕ) → unbroken (first_breach 1 (a ∷ b ∷ c ∷ [])) ≡ true → (a ≡ None) × (b ≡ None) × (c ≡ None)
+all-unbroken None None None e = (refl, refl, refl)
+all-unbroken None None (Some s) e = absurd (false≢true e)
+all-unbroken None (Some s) c e = absurd (false≢true e)
+all-unbroken (Some s) b c e = absurd (false≢true e)
 
-first-none : (l : List ℕ) → first l ≡ none → l ≡ []
+first-none : (l : List ℕ) → first l ≡ None → l ≡ []
 first-none [] e = refl
 first-none (s ∷ l) e = absurd (none-some (sym e))
 
 -- ---- rule 1
 
-no-errors : (t : Table) (errors : List Error) → first_error t errors ≡ none → errors ≡ []
+no-errors : (t : Table) (errors : List Error) → first_error t errors ≡ None → errors ≡ []
 no-errors t [] e = refl
 no-errors t (x ∷ errors) e = absurd (none-some (sym e))
 
-present-some : (o : Option ℕ) → present o ≡ true → (l : ℕ) × (o ≡ some l)
-present-some none e = absurd (false≢true e)
-present-some (some l) e = (l, refl)
+present-some : (o : Option ℕ) → present o ≡ true → (l : ℕ) × (o ≡ Some l)
+present-some None e = absurd (false≢true e)
+present-some (Some l) e = (l, refl)
 
 module _ (t : Table) (sh : Shaped t) where
   -- ---- rule 2
@@ -71,13 +71,13 @@ module _ (t : Table) (sh : Shaped t) where
     pub byte-leaves : length byte_leaves ≡ 256
     byte-leaves = length-map (take end_step (row_of t s).steps) (leaf_of t) ∙ byte-count
 
-    pub byte-leaf : (b : ℕ) → b < 256 → get_or byte_leaves b none ≡ leaf_of t (step t s b)
+    pub byte-leaf : (b : ℕ) → b < 256 → get_or byte_leaves b None ≡ leaf_of t (step t s b)
     unfolding step
     byte-leaf b k =
         let n = byte-count in
-        map_at (leaf_of t) (take end_step (row_of t s).steps) b 0 none (omega arith) ∙ ap (leaf_of t) (get_or-take end_step (row_of t s).steps b 0 k)
+        map_at (leaf_of t) (take end_step (row_of t s).steps) b 0 None (omega arith) ∙ ap (leaf_of t) (get_or-take end_step (row_of t s).steps b 0 k)
 
-    pub endless-means : endless t s ≡ true → (l : ℕ) × ((b : ℕ) → b < 256 → leaf_of t (step t s b) ≡ some l) × (step t s end_step ≡ 0)
+    pub endless-means : endless t s ≡ true → (l : ℕ) × ((b : ℕ) → b < 256 → leaf_of t (step t s b) ≡ Some l) × (step t s end_step ≡ 0)
     unfolding endless bytes_leaf
     endless-means e =
         let (p, z) = and_both (present (agreed byte_leaves)) _ e in
@@ -85,18 +85,18 @@ module _ (t : Table) (sh : Shaped t) where
         let n = byte-leaves in
         (l, λ b k. sym (byte-leaf b k) ∙ agreed-at byte_leaves l q b (omega arith), eqb-true (step t s end_step) 0 z)
 
-    pub endless-shown : (l : ℕ) → ((b : ℕ) → b < 256 → leaf_of t (step t s b) ≡ some l) → step t s end_step ≡ 0 → endless t s ≡ true
+    pub endless-shown : (l : ℕ) → ((b : ℕ) → b < 256 → leaf_of t (step t s b) ≡ Some l) → step t s end_step ≡ 0 → endless t s ≡ true
     unfolding endless bytes_leaf
     endless-shown l f z =
         let n = byte-leaves in
-        let q : agreed byte_leaves ≡ some l = agreed-all byte_leaves (some l) (omega arith) (λ b k. let k' : b < 256 = omega arith in byte-leaf b k' ∙ f b k') in
+        let q : agreed byte_leaves ≡ Some l = agreed-all byte_leaves (Some l) (omega arith) (λ b k. let k' : b < 256 = omega arith in byte-leaf b k' ∙ f b k') in
         and_intro (present (agreed byte_leaves)) _ (ap present q) (eq-eqb (step t s end_step) 0 z)
 
     -- a state that the table reaches is not endless, just if the third rule holds of it
-    pub end_kept : endless t s ≡ false → (l : ℕ) → ((b : ℕ) → b < 256 → leaf_of t (step t s b) ≡ some l) → step t s end_step ≡ 0 → ⊥
+    pub end_kept : endless t s ≡ false → (l : ℕ) → ((b : ℕ) → b < 256 → leaf_of t (step t s b) ≡ Some l) → step t s end_step ≡ 0 → ⊥
     end_kept e l f q = false≢true (sym e ∙ endless-shown l f q)
 
-    pub not-endless : ((l : ℕ) → ((b : ℕ) → b < 256 → leaf_of t (step t s b) ≡ some l) → step t s end_step ≡ 0 → ⊥) → endless t s ≡ false
+    pub not-endless : ((l : ℕ) → ((b : ℕ) → b < 256 → leaf_of t (step t s b) ≡ Some l) → step t s end_step ≡ 0 → ⊥) → endless t s ≡ false
     not-endless f = go (is (endless t s))
       where
         go : Is (endless t s) → endless t s ≡ false
@@ -105,7 +105,7 @@ module _ (t : Table) (sh : Shaped t) where
 
   -- no reached state is endless
   abbrev NoneEndless : Type 0
-  NoneEndless = (s₀ s : ℕ) → t.start ≡ some s₀ → In (reached t s₀) s → endless t s ≡ false
+  NoneEndless = (s₀ s : ℕ) → t.start ≡ Some s₀ → In (reached t s₀) s → endless t s ≡ false
 
   states-long : length (below (size t)) ≡ size t
   states-long = length-tab 0 (size t) (λ i. i)
@@ -113,21 +113,21 @@ module _ (t : Table) (sh : Shaped t) where
   state-at : (s : ℕ) → s < size t → get_or (below (size t)) s 0 ≡ s
   state-at s h = get_or-tab0 (size t) (λ i. i) s 0 h
 
-  none-endless : end_at t ≡ none → NoneEndless
+  none-endless : end_at t ≡ None → NoneEndless
   unfolding end_at
   none-endless e s₀ s st m =
       let h : s < size t = reached-below t sh s₀ st s m in
       let n : those (endless t) (select (reached t s₀) (below (size t))) ≡ [] =
-      first-none (reached_from t (some s₀) (endless t)) (ap (λ (o : Option ℕ). first (reached_from t o (endless t))) (sym st) ∙ e) in
+      first-none (reached_from t (Some s₀) (endless t)) (ap (λ (o : Option ℕ). first (reached_from t o (endless t))) (sym st) ∙ e) in
       ap (endless t) (sym (state-at s h)) ∙ none_passes (endless t) 0 (reached t s₀) (below (size t)) n s (rw states-long h) m
 
-  endless-none : NoneEndless → end_at t ≡ none
+  endless-none : NoneEndless → end_at t ≡ None
   unfolding end_at
   endless-none f = go t.start refl
     where
-      go : (o : Option ℕ) → t.start ≡ o → first (reached_from t t.start (endless t)) ≡ none
-      go none e = ap (λ (o : Option ℕ). first (reached_from t o (endless t))) e
-      go (some s₀) e =
+      go : (o : Option ℕ) → t.start ≡ o → first (reached_from t t.start (endless t)) ≡ None
+      go None e = ap (λ (o : Option ℕ). first (reached_from t o (endless t))) e
+      go (Some s₀) e =
           ap (λ (o : Option ℕ). first (reached_from t o (endless t))) e
           ∙ ap first
           (passes_none (endless t) 0 (reached t s₀) (below (size t))
@@ -136,7 +136,7 @@ module _ (t : Table) (sh : Shaped t) where
   -- ---- both ways
 
   module _ (z : 0 < size t) where
-    zero-dead : zero_at t ≡ none → zero_dead t ≡ true
+    zero-dead : zero_at t ≡ None → zero_dead t ≡ true
     unfolding zero_at
     zero-dead e = go (is (zero_dead t))
       where
@@ -163,11 +163,11 @@ module _ (t : Table) (sh : Shaped t) where
     unfolding is_clean breach error_at zero_at zero_dead
     found-clean c =
         let o = c.orderly in
-        let a : error_at t ≡ none = ap (first_error t) c.no-error in
+        let a : error_at t ≡ None = ap (first_error t) c.no-error in
         let d : zero_dead t ≡ true =
         and_intro (eqb (length (chain t 0)) 0) _ (ap (λ (l : List ℕ). eqb (length l) 0) o.zero-chain) (zero-steps-all z o.zero-steps) in
-        let b : zero_at t ≡ none = ap (λ (x : Bool). cond x none (some 0)) d in
-        let e : end_at t ≡ none =
+        let b : zero_at t ≡ None = ap (λ (x : Bool). cond x None (Some 0)) d in
+        let e : end_at t ≡ None =
         endless-none (λ s₀ s st m. not-endless s (reached-below t sh s₀ st s m) (λ l. o.end-too s₀ s l st m)) in
         λ i. unbroken (first_breach 1 (a i ∷ b i ∷ e i ∷ []))
 

@@ -1,10 +1,9 @@
 -- A graph fits its words: rows of a target for each step, each below the count; leaves below m; at most n states; a root that is a state, if there is one. Each of
 -- the rules 5 to 8 keeps it so, and the finished graph of a legal table fits. Assumes nothing.
+use Rattle.std.specs.Prelude.{Option, Some, None, unwrap_or}
 use mathlib.Core.Path.{◌≡◌, refl, sym, ap, ◌∙◌}
 use mathlib.Core.Bool.{Bool}
 use mathlib.Core.List.{List, [], ◌∷◌, map}
-use mathlib.Core.Option
-use mathlib.Core.Option.{Option, none, some}
 use mathlib.Core.Logic.{◌⊎◌, inl, inr, ⊎_elim}
 use Prim.Native.Nat.{ℕ, ◌≤◌, ◌<◌, zero-le}
 use native.Mathlib.Nat.{not-suc-le-zero}
@@ -30,8 +29,8 @@ use Rattle.graph_rules.specs.Layout.{step_count}
 
 pub record FitsState (m : ℕ) (s : State) : Type 0 where
   pub width : length s.steps ≡ step_count
-  pub accept-below : (l : ℕ) → s.accept ≡ some l → l < m
-  pub early-below : (l : ℕ) → s.early ≡ some l → l < m
+  pub accept-below : (l : ℕ) → s.accept ≡ Some l → l < m
+  pub early-below : (l : ℕ) → s.early ≡ Some l → l < m
 
 abbrev pub AllFit : ℕ → Graph → Type 0
 AllFit m g = (i : ℕ) → i < length g.states → FitsState m (state_of g i)
@@ -42,7 +41,7 @@ Root n r = (r < n) ⊎ ((n ≡ 0) × (r ≡ 0))
 
 pub record Fits (m n : ℕ) (g : Graph) : Type 0 where
   pub states : AllFit m g
-  pub closed : (s c u : ℕ) → to g s c ≡ some u → u < length g.states
+  pub closed : (s c u : ℕ) → to g s c ≡ Some u → u < length g.states
   pub few : length g.states ≤ n
   pub root : Root (length g.states) g.root
 
@@ -95,7 +94,7 @@ module _ (m n : ℕ) (g : Graph) (f : Fits m n g) where
 
 pub relabel-fits : (m n : ℕ) (g : Graph) → AllFit m g → (names : List (Option ℕ)) (rest : List State) (root : ℕ) → length rest ≤ n
     → ((i : ℕ) → i < length rest → (s : ℕ) × (s < length g.states) × (get_or rest i blank ≡ state_of g s))
-    → ((s i : ℕ) → Named names s i → i < length rest) → Root (length rest) (Option.get_or (get_or names root none) 0)
+    → ((s i : ℕ) → Named names s i → i < length rest) → Root (length rest) (unwrap_or (get_or names root None) 0)
     → Fits m n (relabel names rest root)
 unfolding renamed relabel
 relabel-fits m n g f names rest root less from below rooted =
@@ -105,7 +104,7 @@ relabel-fits m n g f names rest root less from below rooted =
           let old : FitsState m (get_or rest i blank) = rw e (f s b) in
           rw (relabel-state names rest root i)
           (record { width = length-map (get_or rest i blank).steps _ ∙ old.width; accept-below = old.accept-below; early-below = old.early-below });
-      closed = λ s c u e. rw size (led-below (get_or (get_or rest s blank).steps c none) u (sym (relabel-to names rest root s c) ∙ e));
+      closed = λ s c u e. rw size (led-below (get_or (get_or rest s blank).steps c None) u (sym (relabel-to names rest root s c) ∙ e));
       few = rw size less;
       root = rw size rooted;
     }
@@ -113,17 +112,17 @@ relabel-fits m n g f names rest root less from below rooted =
     size : length (map (renamed names) rest) ≡ length rest
     size = length-map rest (renamed names)
 
-    led-below : (o : Option ℕ) (u : ℕ) → led names o ≡ some u → u < length rest
-    led-below none u e = absurd (none-some e)
-    led-below (some v) u e = below v u e
+    led-below : (o : Option ℕ) (u : ℕ) → led names o ≡ Some u → u < length rest
+    led-below None u e = absurd (none-some e)
+    led-below (Some v) u e = below v u e
 
 -- of a graph without states, nothing stays and nothing is named
 none_left : (names : List (Option ℕ)) (rest : List State) (root : ℕ) → length names ≤ 0 → length rest ≤ 0
-    → Root (length rest) (Option.get_or (get_or names root none) 0)
-none_left names rest root a b = inr (omega arith, rw (get_or-eq_default names none {n = root} (omega arith)))
+    → Root (length rest) (unwrap_or (get_or names root None) 0)
+none_left names rest root a b = inr (omega arith, rw (get_or-eq_default names None {n = root} (omega arith)))
 
 module _ (g : Graph) (keep : List Bool) (len : length keep ≡ length g.states) (root_kept : g.root < length g.states → In keep g.root) where
-  pub restrict-rooted : Root (length g.states) g.root → Root (length (select keep g.states)) (Option.get_or (get_or (number_from 0 keep) g.root none) 0)
+  pub restrict-rooted : Root (length g.states) g.root → Root (length (select keep g.states)) (unwrap_or (get_or (number_from 0 keep) g.root None) 0)
   unfolding restrict relabel
   restrict-rooted =
       ⊎_elim
@@ -155,7 +154,7 @@ pruned-few m n g f = (pruned-fits m (length g.states) g (tight m n g f)).few
 few-distinct : (g : Graph) → length (distinct same g.states) ≤ length g.states
 few-distinct g = distinct-length same same-sound g.states
 
-pub round-rooted : (g : Graph) → Root (length g.states) g.root → Root (length (distinct same g.states)) (Option.get_or (get_or (names g) g.root none) 0)
+pub round-rooted : (g : Graph) → Root (length g.states) g.root → Root (length (distinct same g.states)) (unwrap_or (get_or (names g) g.root None) 0)
 unfolding merge_round relabel
 round-rooted g =
     ⊎_elim
@@ -189,7 +188,7 @@ module _ (w : List ℕ) (legal : refusal w ≡ 0) where
   sh : Shaped t
   sh = legal-shaped w legal
 
-  module _ (s₀ : ℕ) (st : (table_of w).start ≡ some s₀) where
+  module _ (s₀ : ℕ) (st : (table_of w).start ≡ Some s₀) where
     whole-fits : AllFit (get_or w 2 0) (whole_graph t s₀)
     unfolding first_state
     whole-fits s h =
@@ -219,6 +218,6 @@ module _ (w : List ℕ) (legal : refusal w ≡ 0) where
           record { states = λ i h. absurd (not-suc-le-zero h); closed = λ s c u e. absurd (none-some e); few = zero-le; root = inr (refl, refl) }
 
       go : (o : Option ℕ) → t.start ≡ o → (l : List ℕ) → Fits (get_or w 2 0) (get_or w 0 0) (build_from t o l).graph
-      go none e l = no-states
-      go (some s) e (x ∷ l) = no-states
-      go (some s) e [] = merged-fits _ _ _ (pruned-fits _ _ _ (unpruned-fits s e))
+      go None e l = no-states
+      go (Some s) e (x ∷ l) = no-states
+      go (Some s) e [] = merged-fits _ _ _ (pruned-fits _ _ _ (unpruned-fits s e))

@@ -1,8 +1,7 @@
 -- Where the parts of a table and of a graph stand in their words: what code that indexes the flat words needs. Assumes nothing.
+use Rattle.std.specs.Prelude.{Option, None, unwrap_or}
 use mathlib.Core.Path.{◌≡◌, ap, ◌∙◌}
 use mathlib.Core.List.{List, [], ◌∷◌, ◌++◌, map, flat_map}
-use mathlib.Core.Option
-use mathlib.Core.Option.{Option, none}
 use Prim.Native.Nat.{ℕ, zero, suc, ◌+◌, ◌*◌, ◌≤◌, ◌<◌, zero-le, suc-le-suc}
 use native.Mathlib.Nat.{not-suc-le-zero, le_of_suc-le-suc}
 use native.Mathlib.Omega.{arith}
@@ -92,9 +91,9 @@ module _ (m n : ℕ) (g : Graph) (f : Fits m n g) (i : ℕ) (h : i < length g.st
   steps = (state_of g i).steps
 
   abbrev marks : ℕ
-  marks = marks_word (Option.get_or (accept_of g i) no_leaf) (Option.get_or (early_of g i) no_leaf)
+  marks = marks_word (unwrap_or (accept_of g i) no_leaf) (unwrap_or (early_of g i) no_leaf)
 
-  width : length (map (λ o. Option.get_or o no_state) steps) ≡ step_count
+  width : length (map (λ o. unwrap_or o no_state) steps) ≡ step_count
   width = length-map steps _ ∙ (f.states i h).width
 
   word : (c : ℕ) → c < row_words → get_or (graph_words g) (2 + (row_words * i + c)) 0 ≡ get_or (state_words (state_of g i)) c 0
@@ -104,18 +103,18 @@ module _ (m n : ℕ) (g : Graph) (f : Fits m n g) (i : ℕ) (h : i < length g.st
       ap (λ (x : ℕ). get_or (graph_words g) x 0) e
       ∙ states-word g.states (λ j k. state-length (state_of g j) (f.states j k).width) i c h b
 
-  pub target-word : (c : ℕ) → c < step_count → get_or (graph_words g) (graph_place i c) 0 ≡ Option.get_or (to g i c) no_state
+  pub target-word : (c : ℕ) → c < step_count → get_or (graph_words g) (graph_place i c) 0 ≡ unwrap_or (to g i c) no_state
   unfolding state_words to accept_of early_of
   target-word c b =
       ap (λ (x : ℕ). get_or (graph_words g) x 0) (omega arith) ∙ word c (omega arith)
-      ∙ get_or-append (map (λ o. Option.get_or o no_state) steps) (marks ∷ []) 0 c (let e = width in omega arith)
-      ∙ map_at (λ o. Option.get_or o no_state) steps c none 0 (let e = (f.states i h).width in omega arith)
+      ∙ get_or-append (map (λ o. unwrap_or o no_state) steps) (marks ∷ []) 0 c (let e = width in omega arith)
+      ∙ map_at (λ o. unwrap_or o no_state) steps c None 0 (let e = (f.states i h).width in omega arith)
 
-  pub marks-word : get_or (graph_words g) (graph_place i marks_place) 0 ≡ marks_word (Option.get_or (accept_of g i) no_leaf) (Option.get_or (early_of g i) no_leaf)
+  pub marks-word : get_or (graph_words g) (graph_place i marks_place) 0 ≡ marks_word (unwrap_or (accept_of g i) no_leaf) (unwrap_or (early_of g i) no_leaf)
   unfolding state_words accept_of early_of
   marks-word =
       ap (λ (x : ℕ). get_or (graph_words g) x 0) (omega arith) ∙ word marks_place (omega arith)
-      ∙ get_or_at (map (λ o. Option.get_or o no_state) steps) marks [] 0 marks_place width
+      ∙ get_or_at (map (λ o. unwrap_or o no_state) steps) marks [] 0 marks_place width
 
 -- ---- a graph that comes in as words
 
@@ -144,8 +143,8 @@ module _ (w : List ℕ) (long : graph_size (get_or w 0 0) ≤ length w) (i : ℕ
   pub from-to : (c : ℕ) → c < step_count → to (graph_from w) i c ≡ or_none no_state (get_or w (graph_place i c) 0)
   unfolding to state_from
   from-to c b =
-      ap (λ (s : State). get_or s.steps c none) from-state
-      ∙ map_at (or_none no_state) (take step_count piece) c 0 none
+      ap (λ (s : State). get_or s.steps c None) from-state
+      ∙ map_at (or_none no_state) (take step_count piece) c 0 None
       (let e = length-take-le step_count piece (let l = piece-length in omega arith) in omega arith)
       ∙ ap (or_none no_state) (get_or-take step_count piece c 0 b ∙ piece-word w 2 row_words (get_or w 0 0) i c 0 h (omega arith))
 

@@ -1,8 +1,7 @@
 -- A leaf of a legal table as a word, 255 for none: leaves are below 255, so that the word tells the leaf. Assumes nothing.
+use Rattle.std.specs.Prelude.{Some, unwrap_or}
 use mathlib.Core.Path.{◌≡◌, ap, ◌∙◌}
 use mathlib.Core.List.{List}
-use mathlib.Core.Option
-use mathlib.Core.Option.{some}
 use Prim.Native.Nat.{ℕ, ◌≤◌, ◌<◌}
 use native.Mathlib.Omega.{arith}
 use lib.ListN.{get_or}
@@ -14,11 +13,11 @@ use Rattle.graph_rules.proofs.Words.{back_none, get_d_le}
 use Rattle.graph_rules.specs.Layout.{no_leaf}
 
 module _ (w : List ℕ) (legal : refusal w ≡ 0) (s : ℕ) where
-  leaf-small : (x : ℕ) → leaf_of (table_of w) s ≡ some x → x < no_leaf
+  leaf-small : (x : ℕ) → leaf_of (table_of w) s ≡ Some x → x < no_leaf
   leaf-small x e = let a : x < get_or w 2 0 = legal-leaf w legal s x e in let b = few-leaves w legal in omega arith
 
-  pub leaf-back : (l : ℕ) → l ≡ Option.get_or (leaf_of (table_of w) s) no_leaf → or_none no_leaf l ≡ leaf_of (table_of w) s
+  pub leaf-back : (l : ℕ) → l ≡ unwrap_or (leaf_of (table_of w) s) no_leaf → or_none no_leaf l ≡ leaf_of (table_of w) s
   leaf-back l e = ap (or_none no_leaf) e ∙ back_none no_leaf (leaf_of (table_of w) s) leaf-small
 
-  pub leaf-low : Option.get_or (leaf_of (table_of w) s) no_leaf ≤ no_leaf
+  pub leaf-low : unwrap_or (leaf_of (table_of w) s) no_leaf ≤ no_leaf
   leaf-low = get_d_le no_leaf (leaf_of (table_of w) s) leaf-small

@@ -1,8 +1,8 @@
 -- The merge of rule 8: its rounds keep every reading and every path, and leave no two equal states. Assumes nothing.
+use Rattle.std.specs.Prelude.{Option, None}
 use mathlib.Core.Path.{◌≡◌, refl, sym, ap, subst, ◌∙◌}
 use mathlib.Core.Bool.{true, false}
 use mathlib.Core.List.{List, map}
-use mathlib.Core.Option.{Option, none}
 use mathlib.Core.Logic.{⊎_elim}
 use Prim.Native.Nat.{ℕ, zero, suc, ◌+◌, ◌≤◌, ◌<◌}
 use native.Mathlib.Nat.{not-suc-le-zero}
@@ -46,12 +46,12 @@ module _ (g : Graph) where
   abbrev pub names : List (Option ℕ)
   names = map (λ s. place same s rest) g.states
 
-  name_in : (s : ℕ) → s < length g.states → get_or names s none ≡ place same (state_of g s) rest
+  name_in : (s : ℕ) → s < length g.states → get_or names s None ≡ place same (state_of g s) rest
   unfolding state_of
-  name_in s h = map_at (λ x. place same x rest) g.states s blank none h
+  name_in s h = map_at (λ x. place same x rest) g.states s blank None h
 
-  name_out : (s : ℕ) → length g.states ≤ s → get_or names s none ≡ none
-  name_out s h = get_or-eq_default names none (rw (length-map g.states (λ x. place same x rest)) h)
+  name_out : (s : ℕ) → length g.states ≤ s → get_or names s None ≡ None
+  name_out s h = get_or-eq_default names None (rw (length-map g.states (λ x. place same x rest)) h)
 
   named : (s : ℕ) → s < length g.states → (i : ℕ) × Named names s i
   unfolding state_of
@@ -63,7 +63,7 @@ module _ (g : Graph) where
   pub placed : (s i : ℕ) → Named names s i → (i < length rest) × (get_or rest i blank ≡ state_of g s)
   placed s i n = place_at same same-sound blank (state_of g s) rest i (sym (name_in s (named_in s i n)) ∙ n)
 
-  quiet : (s : ℕ) → get_or names s none ≡ none → Quiet (graph_walker g) s
+  quiet : (s : ℕ) → get_or names s None ≡ None → Quiet (graph_walker g) s
   quiet s e = ⊎_elim (λ h. let (i, n) = named s h in absurd (none-some (sym e ∙ n))) (λ h. out-quiet g s h) (lt-or-le s (length g.states))
 
   pub round-length : length (merge_round g).states ≡ length (distinct same g.states)

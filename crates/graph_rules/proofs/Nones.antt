@@ -1,6 +1,6 @@
 -- A word that stands for a number, or for none. Assumes nothing.
+use Rattle.std.specs.Prelude.{unwrap_or, Option, Some, None}
 use mathlib.Core.Path.{◌≡◌, refl, sym, ap, ◌∙◌}
-use mathlib.Core.Option.{Option, none, some, get_or}
 use Prim.Native.Nat.{ℕ}
 use borrow.Author.Tests.{eqb-true, eq-eqb, ne_eqb}
 use lib.Dec.{eqb}
@@ -9,37 +9,37 @@ use Rattle.lists.proofs.Bools.{Is, is, yes-is, no-is, none-some}
 use Rattle.graph_rules.specs.Graph.{or_none}
 
 module _ (none-word x : ℕ) where
-  pub or_word : get_or (or_none none-word x) none-word ≡ x
+  pub or_word : unwrap_or (or_none none-word x) none-word ≡ x
   or_word = go (is (eqb x none-word))
     where
-      go : Is (eqb x none-word) → get_or (or_none none-word x) none-word ≡ x
+      go : Is (eqb x none-word) → unwrap_or (or_none none-word x) none-word ≡ x
       go (yes-is q) = rw q (sym (eqb-true x none-word q))
       go (no-is q) = rw q
 
-  pub or-none : x ≡ none-word → or_none none-word x ≡ none
+  pub or-none : x ≡ none-word → or_none none-word x ≡ None
   or-none e = rw (eq-eqb x none-word e)
 
-  pub or-number : (x ≡ none-word → ⊥) → or_none none-word x ≡ some x
+  pub or-number : (x ≡ none-word → ⊥) → or_none none-word x ≡ Some x
   or-number n = rw (ne_eqb x none-word n)
 
   -- a number is not the word for none
-  pub or_some : (u : ℕ) → or_none none-word x ≡ some u → (x ≡ u) × (x ≡ none-word → ⊥)
-  or_some u e = (sym or_word ∙ ap (λ (o : Option ℕ). get_or o none-word) e, λ q. none-some (sym (or-none q) ∙ e))
+  pub or_some : (u : ℕ) → or_none none-word x ≡ Some u → (x ≡ u) × (x ≡ none-word → ⊥)
+  or_some u e = (sym or_word ∙ ap (λ (o : Option ℕ). unwrap_or o none-word) e, λ q. none-some (sym (or-none q) ∙ e))
 
   -- and another number is met exactly by its own word
-  pub or-meets : (u : ℕ) → (u ≡ none-word → ⊥) → eq_option (some u) (or_none none-word x) ≡ eqb u x
+  pub or-meets : (u : ℕ) → (u ≡ none-word → ⊥) → eq_option (Some u) (or_none none-word x) ≡ eqb u x
   or-meets u n = go (is (eqb x none-word))
     where
-      go : Is (eqb x none-word) → eq_option (some u) (or_none none-word x) ≡ eqb u x
+      go : Is (eqb x none-word) → eq_option (Some u) (or_none none-word x) ≡ eqb u x
       go (yes-is q) = rw q (sym (ne_eqb u x (λ z. n (z ∙ eqb-true x none-word q))))
       go (no-is q) = rw q
 
 pub or_same : (none-word x y : ℕ) → or_none none-word x ≡ or_none none-word y → x ≡ y
-or_same n x y e = sym (or_word n x) ∙ ap (λ (o : Option ℕ). get_or o n) e ∙ or_word n y
+or_same n x y e = sym (or_word n x) ∙ ap (λ (o : Option ℕ). unwrap_or o n) e ∙ or_word n y
 
 -- two that are not the word for none are equal where their words are
-pub word-inj : (k : ℕ) (a b : Option ℕ) → (a ≡ some k → ⊥) → (b ≡ some k → ⊥) → get_or a k ≡ get_or b k → a ≡ b
-word-inj k none none m n e = refl
-word-inj k none (some y) m n e = absurd (n (ap {B = Option ℕ} some (sym e)))
-word-inj k (some x) none m n e = absurd (m (ap {B = Option ℕ} some e))
-word-inj k (some x) (some y) m n e = ap {B = Option ℕ} some e
+pub word-inj : (k : ℕ) (a b : Option ℕ) → (a ≡ Some k → ⊥) → (b ≡ Some k → ⊥) → unwrap_or a k ≡ unwrap_or b k → a ≡ b
+word-inj k None None m n e = refl
+word-inj k None (Some y) m n e = absurd (n (ap {B = Option ℕ} Some (sym e)))
+word-inj k (Some x) None m n e = absurd (m (ap {B = Option ℕ} Some e))
+word-inj k (Some x) (Some y) m n e = ap {B = Option ℕ} Some e

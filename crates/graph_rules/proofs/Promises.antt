@@ -1,8 +1,8 @@
 -- What stands beyond the definitions: no equal states, readings alike, all reached. Assumes nothing.
+use Rattle.std.specs.Prelude.{Option, Some, None}
 use mathlib.Core.Path.{◌≡◌, refl, sym, ap, subst, subst₂, ◌∙◌}
 use mathlib.Core.Bool.{true}
 use mathlib.Core.List.{List, [], ◌∷◌, ◌++◌}
-use mathlib.Core.Option.{Option, none, some}
 use Prim.Native.Nat.{ℕ, zero, suc, ◌<◌}
 use native.Mathlib.Omega.{arith}
 use lib.ListN.{length, get_or}
@@ -30,9 +30,9 @@ unfolding build
 build-apart t = go t.start (empty_leaves t)
   where
     go : (o : Option ℕ) (l : List ℕ) → Apart same same-sound (build_from t o l).graph.states
-    go none l = apart-nil
-    go (some s) (x ∷ l) = apart-nil
-    go (some s) [] = merged-apart (pruned (unpruned t s))
+    go None l = apart-nil
+    go (Some s) (x ∷ l) = apart-nil
+    go (Some s) [] = merged-apart (pruned (unpruned t s))
 
 -- of every table: two states of the finished graph that agree in accept, early, the 256 targets and the end target are one
 pub no-equal-states : (t : Table) (i j : ℕ) → i < j → j < length (build t).graph.states
@@ -45,11 +45,11 @@ no-equal-states t i j h k a e s =
 
 -- ---- what a build is, where no leaf can match empty text
 
-none-built : (t : Table) → t.start ≡ none → (build t).graph ≡ record { states = []; root = 0 }
+none-built : (t : Table) → t.start ≡ None → (build t).graph ≡ record { states = []; root = 0 }
 unfolding build
 none-built t e i = (build_from t (e i) (empty_leaves t)).graph
 
-start-built : (t : Table) → empty_leaves t ≡ [] → (s₀ : ℕ) → t.start ≡ some s₀ → (build t).graph ≡ (merged (pruned (unpruned t s₀))).graph
+start-built : (t : Table) → empty_leaves t ≡ [] → (s₀ : ℕ) → t.start ≡ Some s₀ → (build t).graph ≡ (merged (pruned (unpruned t s₀))).graph
 unfolding build
 start-built t q s₀ e i = (build_from t (e i) (q i)).graph
 
@@ -59,12 +59,12 @@ unfolding build
 no-empties t no-error = go t.start refl (empty_leaves t) refl
   where
     go : (o : Option ℕ) → t.start ≡ o → (l : List ℕ) → empty_leaves t ≡ l → empty_leaves t ≡ []
-    go none e l q = absurd (nil-cons (subst (λ (o : Option ℕ). (build_from t o (empty_leaves t)).errors ≡ []) e no-error))
-    go (some s) e (x ∷ l) q = absurd (nil-cons (subst₂ (λ (o : Option ℕ) (l : List ℕ). (build_from t o l).errors ≡ []) e q no-error))
-    go (some s) e [] q = q
+    go None e l q = absurd (nil-cons (subst (λ (o : Option ℕ). (build_from t o (empty_leaves t)).errors ≡ []) e no-error))
+    go (Some s) e (x ∷ l) q = absurd (nil-cons (subst₂ (λ (o : Option ℕ) (l : List ℕ). (build_from t o l).errors ≡ []) e q no-error))
+    go (Some s) e [] q = q
 
 -- a graph without states reads none
-no-states-read : (text : List ℕ) → read_graph (record { states = []; root = 0 }) text ≡ none
+no-states-read : (text : List ℕ) → read_graph (record { states = []; root = 0 }) text ≡ None
 unfolding read_graph graph_walker to state_of accept_of early_of
 no-states-read [] = refl
 no-states-read (b ∷ text) = refl
@@ -72,34 +72,34 @@ no-states-read (b ∷ text) = refl
 -- ---- readings alike
 
 module _ (t : Table) (orderly : Orderly t) where
-  late-zero : (o : Option ℕ) → late o 0 none ≡ none
-  late-zero none = refl
-  late-zero (some l) = refl
+  late-zero : (o : Option ℕ) → late o 0 None ≡ None
+  late-zero None = refl
+  late-zero (Some l) = refl
 
   -- a walk that starts at state 0 reads none
-  zero-walk : (text : List ℕ) → Bytes text → walk (table_walker t) 0 0 none text ≡ none
+  zero-walk : (text : List ℕ) → Bytes text → walk (table_walker t) 0 0 None text ≡ None
   unfolding table_walker
   zero-walk [] bytes = rw (orderly.zero-steps end_step (omega arith)) (late-zero (leaf_of t 0))
   zero-walk (b ∷ text) bytes =
       let h : b < step_count = let h' : b < 256 = bytes 0 in omega arith in
       rw (orderly.zero-steps b h) (late-zero (leaf_of t 0))
 
-  table-walk : (s₀ : ℕ) → t.start ≡ some s₀ → (text : List ℕ) → Bytes text → read_table t text ≡ walk (table_walker t) s₀ 0 none text
+  table-walk : (s₀ : ℕ) → t.start ≡ Some s₀ → (text : List ℕ) → Bytes text → read_table t text ≡ walk (table_walker t) s₀ 0 None text
   unfolding read_table
-  table-walk s₀ st text bytes = ap (λ (o : Option ℕ). onward none (λ s. walk (table_walker t) s 0 none text) (start_at o)) st ∙ go s₀
+  table-walk s₀ st text bytes = ap (λ (o : Option ℕ). onward None (λ s. walk (table_walker t) s 0 None text) (start_at o)) st ∙ go s₀
     where
-      go : (s : ℕ) → onward none (λ s. walk (table_walker t) s 0 none text) (edge s) ≡ walk (table_walker t) s 0 none text
+      go : (s : ℕ) → onward None (λ s. walk (table_walker t) s 0 None text) (edge s) ≡ walk (table_walker t) s 0 None text
       go zero = sym (zero-walk text bytes)
       go (suc s) = refl
 
   module _ (sh : Shaped t) where
-    unpruned-reads : (s₀ : ℕ) → t.start ≡ some s₀ → (text : List ℕ) → Bytes text → read_table t text ≡ read_graph (unpruned t s₀) text
+    unpruned-reads : (s₀ : ℕ) → t.start ≡ Some s₀ → (text : List ℕ) → Bytes text → read_table t text ≡ read_graph (unpruned t s₀) text
     unfolding read_graph
     unpruned-reads s₀ st text bytes =
         let (i, n) = number_in 0 (reached t s₀) s₀ (reached-start t sh s₀ st) in
         table-walk s₀ st text bytes
         ∙ walks-alike t (unpruned t s₀) _ (un-facts t sh s₀ st orderly) text bytes s₀ i n
-        ∙ ap (λ (x : ℕ). walk (graph_walker (unpruned t s₀)) x 0 none text) (sym (un-root t sh s₀ st i n))
+        ∙ ap (λ (x : ℕ). walk (graph_walker (unpruned t s₀)) x 0 None text) (sym (un-root t sh s₀ st i n))
 
     module _ (no-empty : empty_leaves t ≡ []) where
       build-reads : (text : List ℕ) → Bytes text → read_table t text ≡ read_graph (build t).graph text
@@ -107,11 +107,11 @@ module _ (t : Table) (orderly : Orderly t) where
       build-reads text bytes = go t.start refl
         where
           go : (o : Option ℕ) → t.start ≡ o → read_table t text ≡ read_graph (build t).graph text
-          go none st =
-              ap (λ (o : Option ℕ). onward none (λ s. walk (table_walker t) s 0 none text) (start_at o)) st
+          go None st =
+              ap (λ (o : Option ℕ). onward None (λ s. walk (table_walker t) s 0 None text) (start_at o)) st
               ∙ sym (no-states-read text)
               ∙ ap (λ (g : Graph). read_graph g text) (sym (none-built t st))
-          go (some s₀) st =
+          go (Some s₀) st =
               let w = un-root-within t sh s₀ st in
               unpruned-reads s₀ st text bytes
               ∙ sym (pruned-reads (unpruned t s₀) w text)
@@ -122,8 +122,8 @@ module _ (t : Table) (orderly : Orderly t) where
       build-reached = go t.start refl
         where
           go : (o : Option ℕ) → t.start ≡ o → (i : ℕ) → i < length (build t).graph.states → FromRoot (build t).graph i
-          go none st = λ i h. let none_below : i < 0 = subst (λ (g : Graph). i < length g.states) (none-built t st) h in absurd (omega arith)
-          go (some s₀) st =
+          go None st = λ i h. let none_below : i < 0 = subst (λ (g : Graph). i < length g.states) (none-built t st) h in absurd (omega arith)
+          go (Some s₀) st =
               let all = merged-path (pruned (unpruned t s₀)) (pruned-path (unpruned t s₀) (kept-reached t sh s₀ st orderly)) in
               subst (λ (g : Graph). (i : ℕ) → i < length g.states → FromRoot g i) (sym (start-built t no-empty s₀ st)) all
 

@@ -1,9 +1,9 @@
 -- A graph restricted to a set of its states (rules 2 and 7), and the prune: from a state that is not kept nothing is recorded, so readings stay.
 -- Assumes nothing.
+use Rattle.std.specs.Prelude.{Option, Some, None}
 use mathlib.Core.Path.{◌≡◌, refl, sym, ap, ◌∙◌}
 use mathlib.Core.Bool.{Bool, true, ◌||◌}
 use mathlib.Core.List.{List}
-use mathlib.Core.Option.{Option, none, some}
 use mathlib.Core.Logic.{⊎_elim}
 use Prim.Native.Nat.{ℕ, ◌<◌}
 use native.Mathlib.Omega.{arith}
@@ -48,7 +48,7 @@ module _ (g : Graph) (keep : List Bool) (len : length keep ≡ length g.states) 
   -- every state of the restricted graph is the new name of a member
   pub restrict-onto : (i : ℕ) → i < length (restrict keep g).states → (s : ℕ) × Named (number_from 0 keep) s i
   restrict-onto i h =
-      let (s, e) = number-onto blank 0 keep g.states i (rw restrict-length at h) in (s, e ∙ ap {B = Option ℕ} some (omega arith))
+      let (s, e) = number-onto blank 0 keep g.states i (rw restrict-length at h) in (s, e ∙ ap {B = Option ℕ} Some (omega arith))
 
 -- ---- the prune
 
@@ -58,7 +58,7 @@ module _ (g : Graph) where
   kept-length = closure-length (λ k s. leads (state_of g s) k) (length g.states) _
 
   -- a state with an edge to a kept one is kept
-  pub kept_back : (s c u : ℕ) → to g s c ≡ some u → In (kept g) u → In (kept g) s
+  pub kept_back : (s c u : ℕ) → to g s c ≡ Some u → In (kept g) u → In (kept g) s
   unfolding kept
   kept_back s c u e h =
       closure-closed (λ k s. leads (state_of g s) k) (length g.states) (λ s. marked (state_of g s) || eqb g.root s)
@@ -72,32 +72,32 @@ module _ (g : Graph) where
   kept-root h = kept-seed g.root h (or_right (marked (state_of g g.root)) _ (eq-eqb g.root g.root refl))
 
   -- a state that is not kept has no marks
-  lone-accept : (s : ℕ) → (In (kept g) s → ⊥) → accept_of g s ≡ none
+  lone-accept : (s : ℕ) → (In (kept g) s → ⊥) → accept_of g s ≡ None
   unfolding accept_of
   lone-accept s h = go (accept_of g s) refl
     where
-      go : (o : Option ℕ) → accept_of g s ≡ o → accept_of g s ≡ none
-      go none e = e
-      go (some l) e =
+      go : (o : Option ℕ) → accept_of g s ≡ o → accept_of g s ≡ None
+      go None e = e
+      go (Some l) e =
           ⊎_elim
           (λ b. absurd (h (kept-seed s b (or_left (marked (state_of g s)) _ (or_left _ _ (ap present e))))))
           (λ b. out-accept g s b)
           (lt-or-le s (length g.states))
 
-  lone-early : (s : ℕ) → (In (kept g) s → ⊥) → early_of g s ≡ none
+  lone-early : (s : ℕ) → (In (kept g) s → ⊥) → early_of g s ≡ None
   unfolding early_of
   lone-early s h = go (early_of g s) refl
     where
-      go : (o : Option ℕ) → early_of g s ≡ o → early_of g s ≡ none
-      go none e = e
-      go (some l) e =
+      go : (o : Option ℕ) → early_of g s ≡ o → early_of g s ≡ None
+      go None e = e
+      go (Some l) e =
           ⊎_elim
           (λ b. absurd (h (kept-seed s b
           (or_left (marked (state_of g s)) _ (or_right (present (state_of g s).accept) _ (ap present e))))))
           (λ b. out-early g s b)
           (lt-or-le s (length g.states))
 
-  quiet : (s : ℕ) → get_or (number_from 0 (kept g)) s none ≡ none → Quiet (graph_walker g) s
+  quiet : (s : ℕ) → get_or (number_from 0 (kept g)) s None ≡ None → Quiet (graph_walker g) s
   quiet s e =
       graph-quiet g (λ s. In (kept g) s → ⊥) lone-accept lone-early (λ s c u h q k. h (kept_back s c u q k)) s
       (λ k. let (i, n) = number_in 0 (kept g) s k in none-some (sym e ∙ n))

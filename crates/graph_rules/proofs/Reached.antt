@@ -1,8 +1,8 @@
 -- Of an orderly table every kept state of the unpruned graph is reached from its root. Assumes nothing.
+use Rattle.std.specs.Prelude.{Option, Some, None}
 use mathlib.Core.Path.{◌≡◌, refl, sym, ap, subst, ◌∙◌}
 use mathlib.Core.Bool.{true, ◌||◌, false≢true}
 use mathlib.Core.List.{List}
-use mathlib.Core.Option.{Option, none, some}
 use mathlib.Core.Logic.{⊎_elim}
 use Prim.Native.Nat.{ℕ, zero, suc, ◌<◌}
 use native.Mathlib.Omega.{arith}
@@ -27,16 +27,16 @@ use Rattle.graph_rules.proofs.Unpruned.{first-root, lengths, reached-below, reac
 use Rattle.graph_rules.proofs.Views.{leads-edge}
 use Rattle.graph_rules.specs.Layout.{step_count}
 
-present-none : (o : Option ℕ) → present o ≡ true → o ≡ none → ⊥
-present-none none h e = false≢true h
-present-none (some l) h e = none-some (sym e)
+present-none : (o : Option ℕ) → present o ≡ true → o ≡ None → ⊥
+present-none None h e = false≢true h
+present-none (Some l) h e = none-some (sym e)
 
 -- why a state is kept
 data Why (g : Graph) (i : ℕ) : Type 0 where
-  has-accept : (accept_of g i ≡ none → ⊥) → Why g i
-  has-early : (early_of g i ≡ none → ⊥) → Why g i
+  has-accept : (accept_of g i ≡ None → ⊥) → Why g i
+  has-early : (early_of g i ≡ None → ⊥) → Why g i
   is-root : g.root ≡ i → Why g i
-  has-edge : (c u : ℕ) → to g i c ≡ some u → Why g i
+  has-edge : (c u : ℕ) → to g i c ≡ Some u → Why g i
 
 kept-why : (g : Graph) (i : ℕ) → In (kept g) i → Why g i
 unfolding kept accept_of early_of
@@ -69,11 +69,11 @@ reached-sound : (t : Table) (s₀ s : ℕ) → In (reached t s₀) s → Reach (
 unfolding reached
 reached-sound t s₀ s h = closure-sound (steps_to t) (size t) (eqb s₀) s h
 
-pub edge_of : (s : ℕ) → (s ≡ 0 → ⊥) → edge s ≡ some s
+pub edge_of : (s : ℕ) → (s ≡ 0 → ⊥) → edge s ≡ Some s
 edge_of zero z = absurd (z refl)
 edge_of (suc s) z = refl
 
-module _ (t : Table) (sh : Shaped t) (s₀ : ℕ) (st : t.start ≡ some s₀) where
+module _ (t : Table) (sh : Shaped t) (s₀ : ℕ) (st : t.start ≡ Some s₀) where
   abbrev g : Graph
   g = unpruned t s₀
 
@@ -97,11 +97,11 @@ module _ (t : Table) (sh : Shaped t) (s₀ : ℕ) (st : t.start ≡ some s₀) w
   un-onto i h = restrict-onto (whole_graph t s₀) (reached t s₀) (lengths t sh s₀ st) i (rw un-length at h)
 
   module _ (orderly : Orderly t) where
-    zero-leaf : leaf_of t 0 ≡ none
+    zero-leaf : leaf_of t 0 ≡ None
     unfolding leaf_of contenders
     zero-leaf = rw orderly.zero-chain
 
-    zero-edge : 0 < size t → (c : ℕ) → edge (step t 0 c) ≡ none
+    zero-edge : 0 < size t → (c : ℕ) → edge (step t 0 c) ≡ None
     unfolding step
     zero-edge h c =
         ap edge
@@ -123,10 +123,10 @@ module _ (t : Table) (sh : Shaped t) (s₀ : ℕ) (st : t.start ≡ some s₀) w
             let (c, b, q) = step_of t k s e in
             let c' : c < step_count = let w = sh.width k hk in omega arith in
             let (j, m) = number_in 0 (reached t s₀) k k-in in
-            let e' : edge (step t k c) ≡ some s = ap edge q ∙ edge_of s z in
+            let e' : edge (step t k c) ≡ Some s = ap edge q ∙ edge_of s z in
             let (i', m', e'') = un-leads t sh s₀ st k j c s m c' e' in
             let d : i' ≡ i = some_inj (sym m' ∙ n) in
-            on_edge (ih (λ k0. z (sym q ∙ ap (λ (x : ℕ). step t x c) k0 ∙ orderly.zero-steps c c')) j m) c (e'' ∙ ap {B = Option ℕ} some d)
+            on_edge (ih (λ k0. z (sym q ∙ ap (λ (x : ℕ). step t x c) k0 ∙ orderly.zero-steps c c')) j m) c (e'' ∙ ap {B = Option ℕ} Some d)
 
     -- state 0 has no marks and no edges: it is kept only as the root
     zero-kept : (i : ℕ) → Named names 0 i → In (kept g) i → FromRoot g i
@@ -135,17 +135,17 @@ module _ (t : Table) (sh : Shaped t) (s₀ : ℕ) (st : t.start ≡ some s₀) w
         z : 0 < size t
         z = reached-below t sh s₀ st 0 (in-number 0 (reached t s₀) 0 i n)
 
-        no-accept : accept_of g i ≡ none
+        no-accept : accept_of g i ≡ None
         no-accept = ⊎_elim (λ x. x.1) (λ x. x ∙ zero-leaf) (un-accept t sh s₀ st 0 i n)
 
-        no-early : early_of g i ≡ none
+        no-early : early_of g i ≡ None
         no-early = at (early_of g i) refl
           where
-            at : (o : Option ℕ) → early_of g i ≡ o → early_of g i ≡ none
-            at none e = e
-            at (some l) e = let (u, e', a) = un-byte t sh s₀ st 0 i l 0 n e (omega arith) in absurd (none-some (sym (zero-edge z 0) ∙ e'))
+            at : (o : Option ℕ) → early_of g i ≡ o → early_of g i ≡ None
+            at None e = e
+            at (Some l) e = let (u, e', a) = un-byte t sh s₀ st 0 i l 0 n e (omega arith) in absurd (none-some (sym (zero-edge z 0) ∙ e'))
 
-        no_edge : (c : ℕ) → to g i c ≡ none
+        no_edge : (c : ℕ) → to g i c ≡ None
         no_edge c = un-to t sh s₀ st 0 i n c ∙ ap (led names) (zero-edge z c)
 
         go : Why g i → FromRoot g i

@@ -1,8 +1,7 @@
 -- A relabelled graph reads as the graph it was made of, and is reached from its root where that is. Assumes nothing.
+use Rattle.std.specs.Prelude.{Option, Some, None, unwrap_or}
 use mathlib.Core.Path.{◌≡◌, refl, ap, subst, ◌∙◌}
 use mathlib.Core.List.{List, [], ◌∷◌}
-use mathlib.Core.Option
-use mathlib.Core.Option.{Option, none, some}
 use Prim.Native.Nat.{ℕ, zero, suc}
 use lib.ListN.{get_or, get_or-map}
 use Rattle.graph_rules.specs.Graph.{State, Graph, blank, state_of, to, accept_of, early_of, FromRoot, at-root, on_edge}
@@ -12,11 +11,11 @@ use Rattle.graph_rules.proofs.Walks.{ends, Led, Quiet, drops, follows-walk, goes
 
 -- where an edge leads after the names
 abbrev pub led : List (Option ℕ) → Option ℕ → Option ℕ
-led names none = none
-led names (some u) = get_or names u none
+led names None = None
+led names (Some u) = get_or names u None
 
 abbrev pub Named : List (Option ℕ) → ℕ → ℕ → Type 0
-Named names s i = get_or names s none ≡ some i
+Named names s i = get_or names s None ≡ Some i
 
 module _ (names : List (Option ℕ)) (rest : List State) (root : ℕ) where
   pub relabel-state : (i : ℕ) → state_of (relabel names rest root) i ≡ renamed names (get_or rest i blank)
@@ -31,16 +30,16 @@ module _ (names : List (Option ℕ)) (rest : List State) (root : ℕ) where
   unfolding early_of renamed
   relabel-early i = ap (λ (s : State). s.early) (relabel-state i)
 
-  led-map : (l : List (Option ℕ)) (c : ℕ) → get_or (renamed names (record { steps = l; accept = none; early = none })).steps c none ≡ led names (get_or l c none)
+  led-map : (l : List (Option ℕ)) (c : ℕ) → get_or (renamed names (record { steps = l; accept = None; early = None })).steps c None ≡ led names (get_or l c None)
   unfolding renamed
   led-map [] c = refl
-  led-map (none ∷ l) zero = refl
-  led-map (some u ∷ l) zero = refl
+  led-map (None ∷ l) zero = refl
+  led-map (Some u ∷ l) zero = refl
   led-map (o ∷ l) (suc c) = led-map l c
 
-  pub relabel-to : (i c : ℕ) → to (relabel names rest root) i c ≡ led names (get_or (get_or rest i blank).steps c none)
+  pub relabel-to : (i c : ℕ) → to (relabel names rest root) i c ≡ led names (get_or (get_or rest i blank).steps c None)
   unfolding to renamed
-  relabel-to i c = ap (λ (s : State). get_or s.steps c none) (relabel-state i) ∙ led-map (get_or rest i blank).steps c
+  relabel-to i c = ap (λ (s : State). get_or s.steps c None) (relabel-state i) ∙ led-map (get_or rest i blank).steps c
 
 module _ (g : Graph) (names : List (Option ℕ)) (rest : List State)
     (found : (s i : ℕ) → Named names s i → get_or rest i blank ≡ state_of g s) where
@@ -57,33 +56,33 @@ module _ (g : Graph) (names : List (Option ℕ)) (rest : List State)
 
   pub new-to : (s i : ℕ) → Named names s i → (c : ℕ) → to new i c ≡ led names (to g s c)
   unfolding to
-  new-to s i h c = relabel-to names rest g.root i c ∙ ap (λ (x : State). led names (get_or x.steps c none)) (found s i h)
+  new-to s i h c = relabel-to names rest g.root i c ∙ ap (λ (x : State). led names (get_or x.steps c None)) (found s i h)
 
   pub new-root : (i : ℕ) → Named names g.root i → new.root ≡ i
   unfolding relabel
-  new-root i h = ap (λ (o : Option ℕ). Option.get_or o 0) h
+  new-root i h = ap (λ (o : Option ℕ). unwrap_or o 0) h
 
-  module _ (quiet : (s : ℕ) → get_or names s none ≡ none → Quiet (graph_walker g) s) where
+  module _ (quiet : (s : ℕ) → get_or names s None ≡ None → Quiet (graph_walker g) s) where
     steps-led : (s i : ℕ) → Named names s i → (c : ℕ) → Led (graph_walker g) (Named names) (to g s c) (to new i c)
     steps-led s i h c = rw (new-to s i h c) (go (to g s c))
       where
-        at : (u : ℕ) (o : Option ℕ) → get_or names u none ≡ o → Led (graph_walker g) (Named names) (some u) o
-        at u none e = drops (quiet u e)
-        at u (some j) e = goes e
+        at : (u : ℕ) (o : Option ℕ) → get_or names u None ≡ o → Led (graph_walker g) (Named names) (Some u) o
+        at u None e = drops (quiet u e)
+        at u (Some j) e = goes e
 
         go : (o : Option ℕ) → Led (graph_walker g) (Named names) o (led names o)
-        go none = ends
-        go (some u) = at u (get_or names u none) refl
+        go None = ends
+        go (Some u) = at u (get_or names u None) refl
 
     -- readings are kept
     pub relabel-reads : (i : ℕ) → Named names g.root i → (text : List ℕ) → read_graph new text ≡ read_graph g text
     unfolding read_graph
     relabel-reads i h text =
-        ap (λ (x : ℕ). walk (graph_walker new) x 0 none text) (new-root i h)
-        ∙ follows-walk (graph_walker g) (graph_walker new) (Named names) (graph-follows g new (Named names) new-accept new-early steps-led) text g.root i h 0 none
+        ap (λ (x : ℕ). walk (graph_walker new) x 0 None text) (new-root i h)
+        ∙ follows-walk (graph_walker g) (graph_walker new) (Named names) (graph-follows g new (Named names) new-accept new-early steps-led) text g.root i h 0 None
 
   -- paths are kept, where every state before a named one is named
-  module _ (back : (s c u j : ℕ) → to g s c ≡ some u → Named names u j → (i : ℕ) × Named names s i) where
+  module _ (back : (s c u j : ℕ) → to g s c ≡ Some u → Named names u j → (i : ℕ) × Named names s i) where
     pub relabel-path : (s : ℕ) → FromRoot g s → (i : ℕ) → Named names s i → FromRoot new i
     relabel-path s at-root i h = subst (FromRoot new) (new-root i h) at-root
     relabel-path s (on_edge {s = p} {u = u} f c e) i h =

@@ -1,8 +1,8 @@
 -- What the laws need to know of a table, and that every table of legal words has it. Assumes nothing.
+use Rattle.std.specs.Prelude.{Some, None}
 use mathlib.Core.Path.{◌≡◌, refl, sym, ap, subst, ◌∙◌}
 use mathlib.Core.Bool.{Bool, true, false, false≢true}
 use mathlib.Core.List.{List, [], ◌∷◌}
-use mathlib.Core.Option.{none, some}
 use mathlib.Core.Logic.{⊎_elim}
 use Prim.Native.Nat.{ℕ, zero, suc, ◌+◌, ◌≤◌, ◌<◌}
 use native.Mathlib.Omega.{arith}
@@ -19,18 +19,18 @@ use Rattle.graph_rules.specs.Layout.{step_count, no_state, most_states, most_lea
 use Rattle.graph_rules.proofs.Counts.{leaves-length, size_is, row-width}
 
 pub record Shaped (t : Table) : Type 0 where
-  pub start-below : (s : ℕ) → t.start ≡ some s → s < size t
+  pub start-below : (s : ℕ) → t.start ≡ Some s → s < size t
   pub width : (s : ℕ) → s < size t → length (row_of t s).steps ≡ step_count
   pub step-below : (s c : ℕ) → s < size t → step t s c < size t
 
 -- ---- the start
 
 module _ (w : List ℕ) where
-  pub start_none : get_or w 1 0 ≡ no_state → (table_of w).start ≡ none
+  pub start_none : get_or w 1 0 ≡ no_state → (table_of w).start ≡ None
   unfolding table_of
   start_none e = rw (eq-eqb (get_or w 1 0) no_state e, table_of)
 
-  pub start-some : (get_or w 1 0 ≡ no_state → ⊥) → (table_of w).start ≡ some (get_or w 1 0)
+  pub start-some : (get_or w 1 0 ≡ no_state → ⊥) → (table_of w).start ≡ Some (get_or w 1 0)
   unfolding table_of
   start-some n = rw (ne_eqb (get_or w 1 0) no_state n, table_of)
 
@@ -101,7 +101,7 @@ module _ (w : List ℕ) (legal : refusal w ≡ 0) where
           let e = get_or-eq_default (row_of (table_of w) s).steps 0 b in
           let p = some-state in let q = size_is w in omega arith
 
-  pub legal-start : (s : ℕ) → (table_of w).start ≡ some s → s < size (table_of w)
+  pub legal-start : (s : ℕ) → (table_of w).start ≡ Some s → s < size (table_of w)
   unfolding table_of conditions counts_fit empties_fit targets_fit heads_fit records_fit
   legal-start s e = go (is (eqb (get_or w 1 0) no_state))
     where
@@ -151,12 +151,12 @@ module _ (w : List ℕ) (legal : refusal w ≡ 0) where
           let n = ltb-true m.next i (and_both (ltb m.next i) _ p.1).0 in
           rw (q, chain_from) (and_intro _ _ p.0 (f m.next (omega arith)))
 
-  single-all : (p : ℕ → Bool) (c : List ℕ) → all_l p c ≡ true → (l : ℕ) → single c ≡ some l → p l ≡ true
+  single-all : (p : ℕ → Bool) (c : List ℕ) → all_l p c ≡ true → (l : ℕ) → single c ≡ Some l → p l ≡ true
   single-all p [] a l e = absurd (none-some e)
   single-all p (x ∷ []) a l e = subst (λ (y : ℕ). p y ≡ true) (some_inj e) (and_both (p x) _ a).0
   single-all p (x ∷ (y ∷ c)) a l e = absurd (none-some e)
 
-  pub legal-leaf : (s l : ℕ) → leaf_of (table_of w) s ≡ some l → l < get_or w 2 0
+  pub legal-leaf : (s l : ℕ) → leaf_of (table_of w) s ≡ Some l → l < get_or w 2 0
   unfolding leaf_of contenders chain
   legal-leaf s l e =
       let t = table_of w in

@@ -1,8 +1,8 @@
 -- The unpruned graph (rules 2 to 6) of a table: the three facts of `Alike` hold of it where the table is orderly. Assumes nothing.
+use Rattle.std.specs.Prelude.{Option, Some, None}
 use mathlib.Core.Path.{◌≡◌, refl, sym, ap, subst, ◌∙◌}
 use mathlib.Core.Bool.{true}
 use mathlib.Core.List.{List, map}
-use mathlib.Core.Option.{Option, none, some}
 use mathlib.Core.Logic.{◌⊎◌, inl, inr, ⊎_elim}
 use Prim.Native.Nat.{ℕ, zero, suc, ◌≤◌, ◌<◌}
 use native.Mathlib.Nat.{le_of_suc-le-suc, eq-or-lt_of_le}
@@ -31,11 +31,11 @@ use Rattle.graph_rules.specs.Layout.{end_step, step_count}
 
 -- ---- edges and steps
 
-pub edge-is : (x u : ℕ) → edge x ≡ some u → x ≡ u
+pub edge-is : (x u : ℕ) → edge x ≡ Some u → x ≡ u
 edge-is zero u e = absurd (none-some e)
 edge-is (suc x) u e = some_inj e
 
-module _ (t : Table) (sh : Shaped t) (s₀ : ℕ) (st : t.start ≡ some s₀) where
+module _ (t : Table) (sh : Shaped t) (s₀ : ℕ) (st : t.start ≡ Some s₀) where
   -- ---- rule 2
 
   pub reached-below : (s : ℕ) → In (reached t s₀) s → s < size t
@@ -90,7 +90,7 @@ module _ (t : Table) (sh : Shaped t) (s₀ : ℕ) (st : t.start ≡ some s₀) w
     unfolding restrict to first_state step
     first_to c =
         new-to whole names (select (reached t s₀) whole.states) (restrict-found whole (reached t s₀) lengths) s i n c
-        ∙ ap (led names) (ap (λ (x : State). get_or x.steps c none) state-is ∙ get_or-map edge (row_of t s).steps c 0)
+        ∙ ap (led names) (ap (λ (x : State). get_or x.steps c None) state-is ∙ get_or-map edge (row_of t s).steps c 0)
 
     first-within : i < length first.states
     first-within = rw (restrict-length whole (reached t s₀) lengths) (restrict-placed whole (reached t s₀) lengths s i n).0
@@ -121,7 +121,7 @@ module _ (t : Table) (sh : Shaped t) (s₀ : ℕ) (st : t.start ≡ some s₀) w
   un-early i = cleared-early (with_early first) i
 
   pub un-accept : (s i : ℕ) → Named names s i
-      → ((covered (with_early first) i ≡ true) × (accept_of (unpruned t s₀) i ≡ none)) ⊎ (accept_of (unpruned t s₀) i ≡ leaf_of t s)
+      → ((covered (with_early first) i ≡ true) × (accept_of (unpruned t s₀) i ≡ None)) ⊎ (accept_of (unpruned t s₀) i ≡ leaf_of t s)
   unfolding unpruned
   un-accept s i n =
       ⊎_elim (λ x. inl x) (λ e. inr (e ∙ early-accept first i ∙ first-accept s i n))
@@ -129,53 +129,53 @@ module _ (t : Table) (sh : Shaped t) (s₀ : ℕ) (st : t.start ≡ some s₀) w
 
   -- ---- the facts
 
-  un-ends : (s i c : ℕ) → Named names s i → edge (step t s c) ≡ none → to (unpruned t s₀) i c ≡ none
+  un-ends : (s i c : ℕ) → Named names s i → edge (step t s c) ≡ None → to (unpruned t s₀) i c ≡ None
   un-ends s i c n e = un-to s i n c ∙ ap (led names) e
 
-  pub un-leads : (s i c u : ℕ) → Named names s i → c < step_count → edge (step t s c) ≡ some u
-      → (j : ℕ) × Named names u j × (to (unpruned t s₀) i c ≡ some j)
+  pub un-leads : (s i c u : ℕ) → Named names s i → c < step_count → edge (step t s c) ≡ Some u
+      → (j : ℕ) × Named names u j × (to (unpruned t s₀) i c ≡ Some j)
   un-leads s i c u n h e =
       let (j, m) = number_in 0 (reached t s₀) u (subst (In (reached t s₀)) (edge-is _ u e) (reached-step s c (named_in s i n) h)) in
       (j, m, un-to s i n c ∙ ap (led names) e ∙ m)
 
-  un-after : (s i c u j : ℕ) → Named names s i → edge (step t s c) ≡ some u → Named names u j → early_of (unpruned t s₀) i ≡ none
+  un-after : (s i c u j : ℕ) → Named names s i → edge (step t s c) ≡ Some u → Named names u j → early_of (unpruned t s₀) i ≡ None
       → accept_of (unpruned t s₀) j ≡ leaf_of t u
   un-after s i c u j n e m q =
       ⊎_elim
       (λ x.
-      let to_j : to (with_early first) i c ≡ some j = early-to first i c ∙ first_to s i n c ∙ ap (led names) e ∙ m in
+      let to_j : to (with_early first) i c ≡ Some j = early-to first i c ∙ first_to s i n c ∙ ap (led names) e ∙ m in
       x.1 ∙ sym q ∙ un-early i ∙ covered-parent (with_early first) i c j to_j x.0 ∙ early-accept first j ∙ first-accept u j m)
       (λ x. x)
       (un-accept u j m)
 
   -- from an edge of the graph back to the step
-  from-to : (s i c j : ℕ) → Named names s i → to first i c ≡ some j → (u : ℕ) × (edge (step t s c) ≡ some u) × Named names u j
+  from-to : (s i c j : ℕ) → Named names s i → to first i c ≡ Some j → (u : ℕ) × (edge (step t s c) ≡ Some u) × Named names u j
   from-to s i c j n e = go (edge (step t s c)) refl
     where
-      go : (o : Option ℕ) → edge (step t s c) ≡ o → (u : ℕ) × (edge (step t s c) ≡ some u) × Named names u j
-      go none q = absurd (none-some (ap (led names) (sym q) ∙ sym (first_to s i n c) ∙ e))
-      go (some u) q = (u, q, ap (led names) (sym q) ∙ sym (first_to s i n c) ∙ e)
+      go : (o : Option ℕ) → edge (step t s c) ≡ o → (u : ℕ) × (edge (step t s c) ≡ Some u) × Named names u j
+      go None q = absurd (none-some (ap (led names) (sym q) ∙ sym (first_to s i n c) ∙ e))
+      go (Some u) q = (u, q, ap (led names) (sym q) ∙ sym (first_to s i n c) ∙ e)
 
-  pub un-byte : (s i l b : ℕ) → Named names s i → early_of (unpruned t s₀) i ≡ some l → b < 256
-      → (u : ℕ) × (edge (step t s b) ≡ some u) × (leaf_of t u ≡ some l)
+  pub un-byte : (s i l b : ℕ) → Named names s i → early_of (unpruned t s₀) i ≡ Some l → b < 256
+      → (u : ℕ) × (edge (step t s b) ≡ Some u) × (leaf_of t u ≡ Some l)
   un-byte s i l b n q h =
       let (j, e, a) = early-byte first i l b (sym (un-early i) ∙ q) (first_width s i n) h in
       let (u, e', m) = from-to s i b j n e in
       (u, e', sym (first-accept u j m) ∙ a)
 
   module _ (orderly : Orderly t) where
-    un-end : (s i l : ℕ) → Named names s i → early_of (unpruned t s₀) i ≡ some l → (u : ℕ) × (edge (step t s end_step) ≡ some u) × (leaf_of t u ≡ some l)
+    un-end : (s i l : ℕ) → Named names s i → early_of (unpruned t s₀) i ≡ Some l → (u : ℕ) × (edge (step t s end_step) ≡ Some u) × (leaf_of t u ≡ Some l)
     un-end s i l n q = go (step t s end_step) refl
       where
-        all : (b : ℕ) → b < 256 → leaf_of t (step t s b) ≡ some l
+        all : (b : ℕ) → b < 256 → leaf_of t (step t s b) ≡ Some l
         all b h = let (u, e, a) = un-byte s i l b n q h in ap (leaf_of t) (edge-is _ u e) ∙ a
 
-        go : (x : ℕ) → step t s end_step ≡ x → (u : ℕ) × (edge (step t s end_step) ≡ some u) × (leaf_of t u ≡ some l)
+        go : (x : ℕ) → step t s end_step ≡ x → (u : ℕ) × (edge (step t s end_step) ≡ Some u) × (leaf_of t u ≡ Some l)
         go zero e = absurd (orderly.end-too s₀ s l st (named_in s i n) all e)
         go (suc u) e =
-            let e' : edge (step t s end_step) ≡ some (suc u) = ap edge e in
+            let e' : edge (step t s end_step) ≡ Some (suc u) = ap edge e in
             let (j, m, e'') = un-leads s i end_step (suc u) n (omega arith) e' in
-            let e₁ : to first i end_step ≡ some j = first_to s i n end_step ∙ ap (led names) e' ∙ m in
+            let e₁ : to first i end_step ≡ Some j = first_to s i n end_step ∙ ap (led names) e' ∙ m in
             (suc u, e', sym (first-accept (suc u) j m) ∙ early-end first i l j (sym (un-early i) ∙ q) e₁)
 
     pub un-facts : Facts t (unpruned t s₀) (Named names)
@@ -184,7 +184,7 @@ module _ (t : Table) (sh : Shaped t) (s₀ : ℕ) (st : t.start ≡ some s₀) w
           ends = λ s i c n h e. un-ends s i c n e;
           leads = λ s i c u n h e. un-leads s i c u n h e;
           early-leads = λ s i l c n q h. ⊎_elim
-              (λ e. subst (λ (x : ℕ). (u : ℕ) × (edge (step t s x) ≡ some u) × (leaf_of t u ≡ some l)) (sym e) (un-end s i l n q))
+              (λ e. subst (λ (x : ℕ). (u : ℕ) × (edge (step t s x) ≡ Some u) × (leaf_of t u ≡ Some l)) (sym e) (un-end s i l n q))
               (λ b. un-byte s i l c n q b)
               (eq-or-lt_of_le (le_of_suc-le-suc h));
           accept-or = λ s i n. ⊎_elim (λ x. inr x.1) (λ x. inl x) (un-accept s i n);

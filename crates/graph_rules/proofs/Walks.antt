@@ -1,9 +1,9 @@
 -- The homomorphism law: where one walker follows another, step for step, both read alike. It serves every renumbering of a graph: that of rule 2,
 -- that after the prune, and each round of the merge. A step may be missing in the follower where it leads to a state from which nothing is recorded.
 -- Assumes nothing.
+use Rattle.std.specs.Prelude.{Option, Some, None}
 use mathlib.Core.Path.{◌≡◌, refl, sym}
 use mathlib.Core.List.{List, [], ◌∷◌}
-use mathlib.Core.Option.{Option, none, some}
 use Prim.Native.Nat.{ℕ, suc, ◌≤◌, ◌<◌}
 use lib.ListN.{length, get_or, drop, drop_of_length-le}
 use lib.Seq.{drop-cons}
@@ -18,9 +18,9 @@ pub record Quiet (v : Walker) (s : ℕ) : Type 0 where
 
 -- a step of v, and the step of its follower: R relates the states
 pub data Led (v : Walker) (R : ℕ → ℕ → Type 0) : Option ℕ → Option ℕ → Type 0 where
-  ends : Led v R none none
-  goes : {s i : ℕ} → R s i → Led v R (some s) (some i)
-  drops : {s : ℕ} → Quiet v s → Led v R (some s) none
+  ends : Led v R None None
+  goes : {s i : ℕ} → R s i → Led v R (Some s) (Some i)
+  drops : {s : ℕ} → Quiet v s → Led v R (Some s) None
 
 pub record Follows (v w : Walker) (R : ℕ → ℕ → Type 0) : Type 0 where
   pub enters : (s i : ℕ) → R s i → (k : ℕ) (r : Reading) → w.enter i k r ≡ v.enter s k r
@@ -68,19 +68,19 @@ module _ (g g' : Graph) (R : ℕ → ℕ → Type 0) where
       }
 
 -- a state without marks whose edges, if any, lead to such states again
-pub graph-quiet : (g : Graph) (Q : ℕ → Type 0) → ((s : ℕ) → Q s → accept_of g s ≡ none) → ((s : ℕ) → Q s → early_of g s ≡ none)
-    → ((s c u : ℕ) → Q s → to g s c ≡ some u → Q u) → (s : ℕ) → Q s → Quiet (graph_walker g) s
+pub graph-quiet : (g : Graph) (Q : ℕ → Type 0) → ((s : ℕ) → Q s → accept_of g s ≡ None) → ((s : ℕ) → Q s → early_of g s ≡ None)
+    → ((s c u : ℕ) → Q s → to g s c ≡ Some u → Q u) → (s : ℕ) → Q s → Quiet (graph_walker g) s
 unfolding graph_walker
 graph-quiet g Q a e f s h = record { still = λ k r. rw (a s h); mute = λ k r text. go text s h k r }
   where
     end : (o : Option ℕ) (s : ℕ) → Q s → to g s end_step ≡ o → (k : ℕ) (r : Reading) → onward r (λ u. late (accept_of g u) (suc k) r) o ≡ r
-    end none s h q k r = refl
-    end (some u) s h q k r = rw (a u (f s end_step u h q))
+    end None s h q k r = refl
+    end (Some u) s h q k r = rw (a u (f s end_step u h q))
 
     on : (text : List ℕ) → ((s : ℕ) → Q s → (k : ℕ) (r : Reading) → walk (graph_walker g) s k r text ≡ r)
         → (o : Option ℕ) (s b : ℕ) → Q s → to g s b ≡ o → (k : ℕ) (r : Reading) → onward r (λ u. walk (graph_walker g) u (suc k) r text) o ≡ r
-    on text ih none s b h q k r = refl
-    on text ih (some u) s b h q k r = ih u (f s b u h q) (suc k) r
+    on text ih None s b h q k r = refl
+    on text ih (Some u) s b h q k r = ih u (f s b u h q) (suc k) r
 
     go : (text : List ℕ) (s : ℕ) → Q s → (k : ℕ) (r : Reading) → walk (graph_walker g) s k r text ≡ r
     go [] s h k r = rw (e s h, a s h) (end (to g s end_step) s h refl k r)

@@ -1,9 +1,8 @@
 -- A graph that fits is read back from its words, whatever follows them. Assumes nothing.
+use Rattle.std.specs.Prelude.{Option, Some, None, unwrap_or}
 use mathlib.Core.Path.{◌≡◌, refl, ap, ◌∙◌}
 use mathlib.Core.Bool.{true, ◌||◌}
 use mathlib.Core.List.{List, [], ◌∷◌, ◌++◌, map, flat_map, append_assoc}
-use mathlib.Core.Option
-use mathlib.Core.Option.{Option, none, some}
 use mathlib.Core.Logic.{⊎_elim}
 use Prim.Native.Nat.{ℕ, suc, ◌+◌, ◌*◌, ◌-◌, ◌≤◌, ◌<◌, zero-le, suc-le-suc}
 use native.Mathlib.Omega.{arith}
@@ -20,29 +19,29 @@ use Rattle.graph_rules.specs.Layout.{step_count, no_state, most_states, row_word
 
 -- ---- a word, and none
 
-pub back_none : (word : ℕ) (o : Option ℕ) → ((x : ℕ) → o ≡ some x → x < word) → or_none word (Option.get_or o word) ≡ o
-back_none word none f = rw (eq-eqb word word refl)
-back_none word (some x) f = rw (ne_eqb x word (λ e. let h : x < word = f x refl in omega arith))
+pub back_none : (word : ℕ) (o : Option ℕ) → ((x : ℕ) → o ≡ Some x → x < word) → or_none word (unwrap_or o word) ≡ o
+back_none word None f = rw (eq-eqb word word refl)
+back_none word (Some x) f = rw (ne_eqb x word (λ e. let h : x < word = f x refl in omega arith))
 
-pub get_d_le : (word : ℕ) (o : Option ℕ) → ((x : ℕ) → o ≡ some x → x < word) → Option.get_or o word ≤ word
-get_d_le word none f = omega arith
-get_d_le word (some x) f = let h : x < word = f x refl in omega arith
+pub get_d_le : (word : ℕ) (o : Option ℕ) → ((x : ℕ) → o ≡ Some x → x < word) → unwrap_or o word ≤ word
+get_d_le word None f = omega arith
+get_d_le word (Some x) f = let h : x < word = f x refl in omega arith
 
-back-steps : (word : ℕ) (l : List (Option ℕ)) → ((c x : ℕ) → get_or l c none ≡ some x → x < word) → map (or_none word) (map (λ o. Option.get_or o word) l) ≡ l
+back-steps : (word : ℕ) (l : List (Option ℕ)) → ((c x : ℕ) → get_or l c None ≡ Some x → x < word) → map (or_none word) (map (λ o. unwrap_or o word) l) ≡ l
 back-steps word [] f = refl
 back-steps word (o ∷ l) f =
-    let a : or_none word (Option.get_or o word) ≡ o = back_none word o (f 0) in
-    let b : map (or_none word) (map (λ o. Option.get_or o word) l) ≡ l = back-steps word l (λ c. f (suc c)) in
+    let a : or_none word (unwrap_or o word) ≡ o = back_none word o (f 0) in
+    let b : map (or_none word) (map (λ o. unwrap_or o word) l) ≡ l = back-steps word l (λ c. f (suc c)) in
     cc
 
 -- ---- a state
 
 module _ (s : State) (width : length s.steps ≡ step_count) where
   abbrev front : List ℕ
-  front = map (λ o. Option.get_or o no_state) s.steps
+  front = map (λ o. unwrap_or o no_state) s.steps
 
   abbrev marks : ℕ
-  marks = marks_word (Option.get_or s.accept no_leaf) (Option.get_or s.early no_leaf)
+  marks = marks_word (unwrap_or s.accept no_leaf) (unwrap_or s.early no_leaf)
 
   front_length : length front ≡ step_count
   front_length = length-map s.steps _ ∙ width
@@ -51,13 +50,13 @@ module _ (s : State) (width : length s.steps ≡ step_count) where
   unfolding state_words
   state-length = length-append front (marks ∷ []) ∙ (let e = front_length in omega arith)
 
-  pub back-state : ((c x : ℕ) → get_or s.steps c none ≡ some x → x < no_state) → ((l : ℕ) → s.accept ≡ some l → l < no_leaf)
-      → ((l : ℕ) → s.early ≡ some l → l < no_leaf) → state_from (state_words s) ≡ s
+  pub back-state : ((c x : ℕ) → get_or s.steps c None ≡ Some x → x < no_state) → ((l : ℕ) → s.accept ≡ Some l → l < no_leaf)
+      → ((l : ℕ) → s.early ≡ Some l → l < no_leaf) → state_from (state_words s) ≡ s
   unfolding state_from state_words
   back-state f a e =
       let word : get_or (state_words s) marks_place 0 ≡ marks = get_or_at front marks [] 0 marks_place front_length in
-      let low : accept_in marks ≡ Option.get_or s.accept no_leaf = let h = get_d_le no_leaf s.accept a in omega arith in
-      let high : early_in marks ≡ Option.get_or s.early no_leaf = let h = get_d_le no_leaf s.accept a in omega arith in
+      let low : accept_in marks ≡ unwrap_or s.accept no_leaf = let h = get_d_le no_leaf s.accept a in omega arith in
+      let high : early_in marks ≡ unwrap_or s.early no_leaf = let h = get_d_le no_leaf s.accept a in omega arith in
       let p = ap (map (or_none no_state)) (take_at front (marks ∷ []) marks_place front_length) ∙ back-steps no_state s.steps f in
       let q = ap (λ (x : ℕ). or_none no_leaf (accept_in x)) word ∙ ap (or_none no_leaf) low ∙ back_none no_leaf s.accept a in
       let r = ap (λ (x : ℕ). or_none no_leaf (early_in x)) word ∙ ap (or_none no_leaf) high ∙ back_none no_leaf s.early e in
@@ -84,7 +83,7 @@ back-all (s ∷ l) f =
     cc
 
 module _ (m n : ℕ) (leaves : m ≤ no_leaf) (states : n ≤ most_states) (g : Graph) (f : Fits m n g) where
-  target_small : (i c u : ℕ) → to g i c ≡ some u → u < no_state
+  target_small : (i c u : ℕ) → to g i c ≡ Some u → u < no_state
   target_small i c u e = let a = f.closed i c u e in let b = f.few in omega arith
 
   pub state-back : (i : ℕ) → i < length g.states → state_from (state_words (state_of g i)) ≡ state_of g i
@@ -130,13 +129,13 @@ module _ (m n : ℕ) (leaves : m ≤ no_leaf) (states : n ≤ most_states) (g : 
   abbrev count : ℕ
   count = length g.states
 
-  target_fits_lem : (l : List (Option ℕ)) → ((c u : ℕ) → get_or l c none ≡ some u → u < count)
-      → all_l (λ u. ltb u count || eqb u no_state) (map (λ o. Option.get_or o no_state) l) ≡ true
+  target_fits_lem : (l : List (Option ℕ)) → ((c u : ℕ) → get_or l c None ≡ Some u → u < count)
+      → all_l (λ u. ltb u count || eqb u no_state) (map (λ o. unwrap_or o no_state) l) ≡ true
   target_fits_lem [] h = refl
-  target_fits_lem (none ∷ l) h = and_intro _ _ (or_right (ltb no_state count) _ refl) (target_fits_lem l (λ c. h (suc c)))
-  target_fits_lem (some u ∷ l) h = and_intro _ _ (or_left _ _ (lt-ltb u count (h 0 u refl))) (target_fits_lem l (λ c. h (suc c)))
+  target_fits_lem (None ∷ l) h = and_intro _ _ (or_right (ltb no_state count) _ refl) (target_fits_lem l (λ c. h (suc c)))
+  target_fits_lem (Some u ∷ l) h = and_intro _ _ (or_left _ _ (lt-ltb u count (h 0 u refl))) (target_fits_lem l (λ c. h (suc c)))
 
-  row_fits_lem : (l : List State) → ((i : ℕ) → i < length l → (length (get_or l i blank).steps ≡ step_count) × ((c u : ℕ) → get_or (get_or l i blank).steps c none ≡ some u → u < count))
+  row_fits_lem : (l : List State) → ((i : ℕ) → i < length l → (length (get_or l i blank).steps ≡ step_count) × ((c u : ℕ) → get_or (get_or l i blank).steps c None ≡ Some u → u < count))
       → all_l (λ p. all_l (λ u. ltb u count || eqb u no_state) (take step_count p)) (map state_words l) ≡ true
   unfolding state_words
   row_fits_lem [] h = refl

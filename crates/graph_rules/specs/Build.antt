@@ -1,7 +1,5 @@
 -- The build (docs/RULES.md, rules 1 to 8), rule by rule. Definitions only.
-use Rattle.std.specs.Prelude.{Bool, true, false, not, cond, ◌||◌, List, [], ◌∷◌, ◌++◌, map, ℕ, zero, suc, max, eqb, leb, length, get_or, take, drop}
-use Rattle.std.proofs.Math.Option
-use Rattle.std.proofs.Math.Option.{Option, none, some}
+use Rattle.std.specs.Prelude.{Bool, true, false, not, cond, ◌||◌, List, [], ◌∷◌, ◌++◌, map, ℕ, zero, suc, max, eqb, leb, length, get_or, take, drop, Option, Some, None, unwrap_or}
 use Rattle.lists.specs.Sets.{closure}
 use Rattle.lists.specs.Lists.{all_l, below, any_l, those, select, distinct, place, eq_option, number_from, sorted}
 use Rattle.graph_rules.specs.Table.{Table, size, row_of, leaf_at, match_of}
@@ -47,14 +45,14 @@ reached t s = closure (steps_to t) (size t) (eqb s)
 unfoldable pub renamed : List (Option ℕ) → State → State
 renamed names s =
     record {
-      steps = map (λ o. elim o [ none ↦ none | some u ↦ get_or names u none ]) s.steps;
+      steps = map (λ o. elim o [ None ↦ None | Some u ↦ get_or names u None ]) s.steps;
       accept = s.accept;
       early = s.early;
     }
 
 -- the graph of the states `rest`, once every old state is known by its new name
 unfoldable pub relabel : List (Option ℕ) → List State → ℕ → Graph
-relabel names rest root = record { states = map (renamed names) rest; root = Option.get_or (get_or names root none) 0 }
+relabel names rest root = record { states = map (renamed names) rest; root = unwrap_or (get_or names root None) 0 }
 
 -- the graph of a set of states, "renumbered in ascending order"; edges to others are dropped (rules 2 and 7)
 unfoldable pub restrict : List Bool → Graph → Graph
@@ -80,9 +78,9 @@ unfoldable pub contenders : Table → ℕ → List ℕ
 contenders t s = let c = chain t s in let h = highest (map (λ l. (leaf_at t l).priority) c) in those (λ l. eqb (leaf_at t l).priority h) c
 
 abbrev pub single : List ℕ → Option ℕ
-single [] = none
-single (l ∷ []) = some l
-single (l ∷ (k ∷ ls)) = none
+single [] = None
+single (l ∷ []) = Some l
+single (l ∷ (k ∷ ls)) = None
 
 -- a state's leaf: none if the chain is empty, or if several share the highest priority
 unfoldable pub leaf_of : Table → ℕ → Option ℕ
@@ -95,11 +93,11 @@ ties t states = map disambiguation (sorted (those (λ ls. leb 2 (length ls)) (ma
 -- ---- rule 4, with the leaves of rule 3 as accepts
 
 abbrev pub edge : ℕ → Option ℕ
-edge zero = none
-edge (suc u) = some (suc u)
+edge zero = None
+edge (suc u) = Some (suc u)
 
 unfoldable pub first_state : Table → ℕ → State
-first_state t s = record { steps = map edge (row_of t s).steps; accept = leaf_of t s; early = none }
+first_state t s = record { steps = map edge (row_of t s).steps; accept = leaf_of t s; early = None }
 
 -- the graph of all states of the table
 unfoldable pub whole_graph : Table → ℕ → Graph
@@ -108,8 +106,8 @@ whole_graph t s = record { states = map (first_state t) (below (size t)); root =
 -- ---- rule 5
 
 abbrev pub present : Option ℕ → Bool
-present none = false
-present (some u) = true
+present None = false
+present (Some u) = true
 
 -- the byte edges, there or not, and the end edge if there is one
 unfoldable pub children : State → List (Option ℕ)
@@ -117,13 +115,13 @@ children s = take end_step s.steps ++ those present (drop end_step s.steps)
 
 -- the accept that an edge leads to
 abbrev pub accept_by : Graph → Option ℕ → Option ℕ
-accept_by g none = none
-accept_by g (some u) = accept_of g u
+accept_by g None = None
+accept_by g (Some u) = accept_of g u
 
 -- the leaf that all have: none if one has none, or two differ
 abbrev pub agreed : List (Option ℕ) → Option ℕ
-agreed [] = none
-agreed (o ∷ l) = cond (all_l (eq_option o) l) o none
+agreed [] = None
+agreed (o ∷ l) = cond (all_l (eq_option o) l) o None
 
 unfoldable pub with_early : Graph → Graph
 with_early g =
@@ -142,7 +140,7 @@ unfoldable pub cleared : Graph → ℕ → State
 cleared g s =
     record {
       steps = (state_of g s).steps;
-      accept = cond (covered g s) none (accept_of g s);
+      accept = cond (covered g s) None (accept_of g s);
       early = (state_of g s).early;
     }
 
@@ -195,9 +193,9 @@ unpruned t s = with_cleared (with_early (restrict (reached t s) (whole_graph t s
 
 -- from a start, and the leaves that can be empty
 abbrev pub build_from : Table → Option ℕ → List ℕ → Built
-build_from t none empties = no_states (no_universal_start ∷ [])
-build_from t (some s) (l ∷ ls) = no_states (map empty_match (l ∷ ls))
-build_from t (some s) [] =
+build_from t None empties = no_states (no_universal_start ∷ [])
+build_from t (Some s) (l ∷ ls) = no_states (map empty_match (l ∷ ls))
+build_from t (Some s) [] =
     let m = merged (pruned (unpruned t s)) in
     record { graph = m.graph; errors = ties t (reached t s); rounds = m.rounds }
 

@@ -1,21 +1,21 @@
 -- Clean tables (docs/RULES.md, "Clean"), by a test that computes: the first of the three rules that a table breaks, and the state where. That it
 -- tells what `Clean` says, both ways, is in proofs/Cleanness. Definitions only.
-use Rattle.std.specs.Prelude.{Bool, true, false, cond, ◌&&◌, List, [], ◌∷◌, map, ℕ, suc, eqb, leb, length, get_or, take}
-use Rattle.std.proofs.Math.Option.{Option, none, some}
+use Rattle.std.specs.Prelude.{Bool, true, false, cond, ◌&&◌, List, [], ◌∷◌, map, ℕ, suc, eqb, leb, length, get_or, take, Option, Some, None}
 use Rattle.lists.specs.Lists.{all_l, below, those, select}
 use Rattle.graph_rules.specs.Table.{Table, size, row_of, step}
 use Rattle.graph_rules.specs.Build.{Error, no_universal_start, empty_match, disambiguation, build, reached, chain, contenders, leaf_of, present, agreed}
 use Rattle.graph_rules.specs.Layout.{end_step, no_state}
+pub use Rattle.graph_rules.specs.declared.Breach.{Breach}
 
 -- the first of a list
 abbrev pub first : List ℕ → Option ℕ
-first [] = none
-first (s ∷ l) = some s
+first [] = None
+first (s ∷ l) = Some s
 
 -- the states that are reached from a start, if there is one, and pass a test, ascending
 abbrev pub reached_from : Table → Option ℕ → (ℕ → Bool) → List ℕ
-reached_from t none p = []
-reached_from t (some s) p = those p (select (reached t s) (below (size t)))
+reached_from t None p = []
+reached_from t (Some s) p = those p (select (reached t s) (below (size t)))
 
 -- ---- rule 1: "no error in the build"
 
@@ -30,8 +30,8 @@ error_state t (empty_match l) = no_state
 error_state t (disambiguation ls) = get_or (reached_from t t.start (tied t)) 0 no_state
 
 abbrev pub first_error : Table → List Error → Option ℕ
-first_error t [] = none
-first_error t (e ∷ errors) = some (error_state t e)
+first_error t [] = None
+first_error t (e ∷ errors) = Some (error_state t e)
 
 unfoldable pub error_at : Table → Option ℕ
 error_at t = first_error t (build t).errors
@@ -42,7 +42,7 @@ unfoldable pub zero_dead : Table → Bool
 zero_dead t = eqb (length (chain t 0)) 0 && all_l (eqb 0) (row_of t 0).steps
 
 unfoldable pub zero_at : Table → Option ℕ
-zero_at t = cond (zero_dead t) none (some 0)
+zero_at t = cond (zero_dead t) None (Some 0)
 
 -- ---- rule 3: "a reached state whose 256 byte steps all lead to states of one same leaf has an end step to a state other than 0"
 
@@ -59,22 +59,18 @@ end_at t = first (reached_from t t.start (endless t))
 
 -- ---- the first rule that is broken
 
-pub record Breach : Type 0 where
-  pub rule : ℕ
-  pub state : ℕ  -- the lowest where it is broken; 65,535: it belongs to no state
-
 -- from rule k on, told where each is broken
 abbrev pub first_breach : ℕ → List (Option ℕ) → Option Breach
-first_breach k [] = none
-first_breach k (none ∷ l) = first_breach (suc k) l
-first_breach k (some s ∷ l) = some (record { rule = k; state = s })
+first_breach k [] = None
+first_breach k (None ∷ l) = first_breach (suc k) l
+first_breach k (Some s ∷ l) = Some (record { rule = k; state = s })
 
 unfoldable pub breach : Table → Option Breach
 breach t = first_breach 1 (error_at t ∷ zero_at t ∷ end_at t ∷ [])
 
 abbrev pub unbroken : Option Breach → Bool
-unbroken none = true
-unbroken (some b) = false
+unbroken None = true
+unbroken (Some b) = false
 
 unfoldable pub is_clean : Table → Bool
 is_clean t = unbroken (breach t)

@@ -1,8 +1,6 @@
 -- A lexer graph, and its words (docs/FORMATS.md, "Graph"). Definitions only.
-use Rattle.std.specs.Prelude.{◌≡◌, Bool, cond, ◌&&◌, ◌||◌, ℕ, ◌*◌, ◌-◌, eqb, leb, ltb, length, get_or, take, drop, replicate}
+use Rattle.std.specs.Prelude.{◌≡◌, Bool, cond, ◌&&◌, ◌||◌, ℕ, ◌*◌, ◌-◌, eqb, leb, ltb, length, get_or, take, drop, replicate, Option, Some, None, unwrap_or}
 use mathlib.Core.List.{List, [], ◌∷◌, ◌++◌, map, flat_map}
-use Rattle.std.proofs.Math.Option
-use Rattle.std.proofs.Math.Option.{Option, none, some}
 use Rattle.lists.specs.Lists.{all_l, eq_list, eq_option, any_l, pieces}
 use Rattle.lists.specs.Sets.{closure}
 use Rattle.graph_rules.specs.Layout.{step_count, no_state, most_states, row_words, marks_place, graph_size, no_leaf, marks_word, accept_in, early_in}
@@ -19,14 +17,14 @@ pub record Graph : Type 0 where
 -- ---- views. A number that no state has stands for a state with no marks and no edges.
 
 abbrev pub blank : State
-blank = record { steps = []; accept = none; early = none }
+blank = record { steps = []; accept = None; early = None }
 
 unfoldable pub state_of : Graph → ℕ → State
 state_of g s = get_or g.states s blank
 
 -- the edge of state s for byte c, or for the end, c = 256
 unfoldable pub to : Graph → ℕ → ℕ → Option ℕ
-to g s c = get_or (state_of g s).steps c none
+to g s c = get_or (state_of g s).steps c None
 
 unfoldable pub accept_of : Graph → ℕ → Option ℕ
 accept_of g s = (state_of g s).accept
@@ -36,12 +34,12 @@ early_of g s = (state_of g s).early
 
 -- there is an edge, by a byte or the end, from a state to state u
 unfoldable pub leads : State → ℕ → Bool
-leads s u = any_l (eq_option (some u)) s.steps
+leads s u = any_l (eq_option (Some u)) s.steps
 
 -- the states that are reached from the root by byte and end edges
 pub data FromRoot (g : Graph) : ℕ → Type 0 where
   at-root : FromRoot g g.root
-  on_edge : {s u : ℕ} → FromRoot g s → (c : ℕ) → to g s c ≡ some u → FromRoot g u
+  on_edge : {s u : ℕ} → FromRoot g s → (c : ℕ) → to g s c ≡ Some u → FromRoot g u
 
 -- and as a set that computes
 unfoldable pub reached_states : Graph → List Bool
@@ -55,7 +53,7 @@ same a b = eq_option a.accept b.accept && (eq_option a.early b.early && eq_list 
 
 -- 256 targets and the end target, and the marks
 unfoldable pub state_words : State → List ℕ
-state_words s = map (λ o. Option.get_or o no_state) s.steps ++ (marks_word (Option.get_or s.accept no_leaf) (Option.get_or s.early no_leaf) ∷ [])
+state_words s = map (λ o. unwrap_or o no_state) s.steps ++ (marks_word (unwrap_or s.accept no_leaf) (unwrap_or s.early no_leaf) ∷ [])
 
 -- state count, root, then a row a state
 unfoldable pub graph_words : Graph → List ℕ
@@ -69,7 +67,7 @@ graph_buffer n g = graph_words g ++ replicate (row_words * (n - length g.states)
 
 -- a number, or none where it is the word for none
 abbrev pub or_none : ℕ → ℕ → Option ℕ
-or_none word x = cond (eqb x word) none (some x)
+or_none word x = cond (eqb x word) None (Some x)
 
 unfoldable pub state_from : List ℕ → State
 state_from p =

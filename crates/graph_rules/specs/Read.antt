@@ -1,28 +1,24 @@
 -- Readings of a text (docs/RULES.md, "Reading by the table" and "Reading by the graph"), and clean tables. Definitions only.
-use Rattle.std.specs.Prelude.{◌≡◌, List, [], ◌∷◌, ℕ, zero, suc, ◌<◌, get_or}
-use Rattle.std.proofs.Math.Option.{Option, none, some}
+use Rattle.std.specs.Prelude.{◌≡◌, List, [], ◌∷◌, ℕ, zero, suc, ◌<◌, get_or, Option, Some, None}
 use Rattle.lists.specs.Sets.{In}
 use Rattle.graph_rules.specs.Table.{Table, step}
 use Rattle.graph_rules.specs.Graph.{Graph, to, accept_of, early_of}
 use Rattle.graph_rules.specs.Build.{build, chain, leaf_of, reached, edge}
 use Rattle.graph_rules.specs.Layout.{end_step, step_count}
+pub use Rattle.graph_rules.specs.declared.Found.{Found}
 
 -- a text is a list of bytes
 abbrev pub Bytes : List ℕ → Type 0
 Bytes text = (i : ℕ) → get_or text i 0 < 256
-
-pub record Found : Type 0 where
-  pub leaf : ℕ
-  pub end : ℕ
 
 abbrev pub Reading : Type 0
 Reading = Option Found
 
 -- the record of a state with this leaf that step k has entered: (leaf, k − 1). r: the last record before.
 abbrev pub late : Option ℕ → ℕ → Reading → Reading
-late none k r = r
-late (some l) zero r = r
-late (some l) (suc k) r = some (record { leaf = l; end = k })
+late None k r = r
+late (Some l) zero r = r
+late (Some l) (suc k) r = Some (record { leaf = l; end = k })
 
 -- ---- a walk over a text: where a step leads, if anywhere, and what is recorded where it leads
 
@@ -32,8 +28,8 @@ pub record Walker : Type 0 where
   pub leave : ℕ → ℕ → Reading → Reading  -- the record at a state entered by the end step after k byte steps
 
 abbrev pub onward : Reading → (ℕ → Reading) → Option ℕ → Reading
-onward r f none = r
-onward r f (some u) = f u
+onward r f None = r
+onward r f (Some u) = f u
 
 -- the walk from state s, after k byte steps and with last record r, over the rest of the text: a step for each byte, then the end step
 abbrev pub walk : Walker → ℕ → ℕ → Reading → List ℕ → Reading
@@ -51,18 +47,18 @@ table_walker t =
     }
 
 abbrev pub start_at : Option ℕ → Option ℕ
-start_at none = none
-start_at (some s) = edge s
+start_at None = None
+start_at (Some s) = edge s
 
 -- "start 65,535 reads none", and so does start 0
 unfoldable pub read_table : Table → List ℕ → Reading
-read_table t text = onward none (λ s. walk (table_walker t) s 0 none text) (start_at t.start)
+read_table t text = onward None (λ s. walk (table_walker t) s 0 None text) (start_at t.start)
 
 -- ---- a graph: early records (early, k), otherwise accept with k above 0 (accept, k − 1); "after the end step only accept is read"
 
 abbrev pub mark : Option ℕ → Option ℕ → ℕ → Reading → Reading
-mark (some l) accept k r = some (record { leaf = l; end = k })
-mark none accept k r = late accept k r
+mark (Some l) accept k r = Some (record { leaf = l; end = k })
+mark None accept k r = late accept k r
 
 unfoldable pub graph_walker : Graph → Walker
 graph_walker g =
@@ -74,7 +70,7 @@ graph_walker g =
 
 -- a graph without states reads none: its root has no marks and no edges
 unfoldable pub read_graph : Graph → List ℕ → Reading
-read_graph g text = walk (graph_walker g) g.root 0 none text
+read_graph g text = walk (graph_walker g) g.root 0 None text
 
 -- ---- clean
 
@@ -84,8 +80,8 @@ pub record Orderly (t : Table) : Type 0 where
   pub zero-chain : chain t 0 ≡ []
   pub zero-steps : (c : ℕ) → c < step_count → step t 0 c ≡ 0
   -- "a reached state whose 256 byte steps all lead to states of one same leaf has an end step to a state other than 0"
-  pub end-too : (s₀ s l : ℕ) → t.start ≡ some s₀ → In (reached t s₀) s
-      → ((b : ℕ) → b < 256 → leaf_of t (step t s b) ≡ some l) → step t s end_step ≡ 0 → ⊥
+  pub end-too : (s₀ s l : ℕ) → t.start ≡ Some s₀ → In (reached t s₀) s
+      → ((b : ℕ) → b < 256 → leaf_of t (step t s b) ≡ Some l) → step t s end_step ≡ 0 → ⊥
 
 pub record Clean (t : Table) : Type 0 where
   -- "no error in the build"

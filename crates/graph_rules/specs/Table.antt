@@ -1,7 +1,6 @@
 -- The table that comes in (docs/FORMATS.md, "Table"): its words taken apart once, and the refusals 1 to 7. Definitions only. They are total: of words
 -- that are refused, `table_of` means nothing.
-use Rattle.std.specs.Prelude.{Bool, true, false, ◌&&◌, ◌||◌, List, [], ◌∷◌, map, ℕ, zero, suc, ◌+◌, ◌*◌, eqb, leb, ltb, length, get_or, take, drop}
-use Rattle.std.proofs.Math.Option.{Option, none, some}
+use Rattle.std.specs.Prelude.{Bool, true, false, ◌&&◌, ◌||◌, List, [], ◌∷◌, map, ℕ, zero, suc, ◌+◌, ◌*◌, eqb, leb, ltb, length, get_or, take, drop, Option, Some, None}
 use Rattle.lists.specs.Lists.{all_l, below, pieces}
 use Rattle.graph_rules.specs.Layout.{step_count, no_state, most_states, table_row, head_place, most_leaves, most_matches, table_length}
 
@@ -33,7 +32,7 @@ table_of w =
     let m = get_or w 2 0 in
     let r = get_or w 3 0 in
     record {
-      start = elim (eqb start no_state) [ true ↦ none | false ↦ some start ];
+      start = elim (eqb start no_state) [ true ↦ None | false ↦ Some start ];
       leaves = map (λ p. record { priority = get_or p 0 0 + 65536 * get_or p 1 0; empty = get_or p 2 0 }) (pieces 3 m (drop 4 w));
       rows = map (λ p. record { steps = take step_count p; head = get_or p head_place 0 }) (pieces table_row n (drop (4 + 3 * m) w));
       matches = map (λ p. record { leaf = get_or p 0 0; next = get_or p 1 0 }) (pieces 2 r (drop (4 + 3 * m + table_row * n) w));

@@ -1,20 +1,19 @@
 -- A state's contenders are the tie that begins at its top record, and a tie goes on at its next record: by induction along a chain, whose record numbers
 -- fall. Assumes nothing.
+use Rattle.std.specs.Prelude.{Option, Some, None}
 use mathlib.Core.Path.{◌≡◌, refl, sym, ap, ◌∙◌}
 use mathlib.Core.List.{List, [], ◌∷◌, map, map-map}
-use mathlib.Core.Option.{none, some}
-use mathlib.Core.Logic.{◌⊎◌, inl, inr, ⊎_elim}
 use Prim.Native.Nat.{ℕ, zero, suc, max, ◌≤◌, ◌<◌}
 use native.Mathlib.Omega.{arith}
 use borrow.Author.Tests.{eqb-true, eqb-false, eq-eqb, ne_eqb}
 use lib.Dec.{eqb}
 use lib.ListN.{get_or}
 use Rattle.lists.specs.Lists.{those}
-use Rattle.lists.proofs.Bools.{Is, is, yes-is, no-is}
+use Rattle.lists.proofs.Bools.{Is, is, yes-is, no-is, none-some, some_inj}
 use Rattle.lists.proofs.Those.{those-map}
 use Rattle.graph_rules.specs.Table.{Table, table_of, row_of, leaf_at, match_of, refusal}
 use Rattle.graph_rules.specs.Build.{chain_from, chain, highest, contenders, single, leaf_of}
-use Rattle.leaves.specs.Chains.{records_from, records, priority_at, highest_from, first_with, top_of, next_tied, tie_from}
+use Rattle.leaves.specs.Chains.{records_from, records, priority_at, highest_from, first_with, top_of, next_tied, tie_from, tie_at}
 use Rattle.leaves.proofs.Records.{next-below}
 use Rattle.graph_rules.proofs.Shape.{head-fits}
 
@@ -99,12 +98,12 @@ module _ (w : List ℕ) (legal : refusal w ≡ 0) where
 
   -- ---- the first record of a priority
 
-  pub first-end : (p : ℕ) → first_with t p 0 ≡ 0
+  pub first-end : (p : ℕ) → first_with t p 0 ≡ None
   unfolding first_with records
   first-end p = refl
 
   module _ (p i : ℕ) (a : 0 < i) (h : i ≤ get_or w 3 0) where
-    pub first-here : priority_at t i ≡ p → first_with t p i ≡ i
+    pub first-here : priority_at t i ≡ p → first_with t p i ≡ Some i
     unfolding first_with
     first-here e = rw (records-step i a h) (rw (eq-eqb (priority_at t i) p e, those))
 
@@ -112,108 +111,100 @@ module _ (w : List ℕ) (legal : refusal w ≡ 0) where
     unfolding first_with
     first-later e = rw (records-step i a h) (rw (ne_eqb (priority_at t i) p e, those))
 
-  -- from there on the chain has all of that priority
-  record FromFirst (p i f : ℕ) : Type 0 where
-    same : with t p (records t i) ≡ with t p (records t f)
-    low : f ≤ i
-    has : (f ≡ 0) ⊎ (priority_at t f ≡ p)
+  -- that record is of the chain, and from there on the chain has all of that priority
+  record FromFirst (p i : ℕ) (f : Option ℕ) : Type 0 where
+    low : (j : ℕ) → f ≡ Some j → (0 < j) × (j ≤ i)
+    same : map (leaf_of_record t) (with t p (records t i)) ≡ tie_at t f
+
+  from_end : (p : ℕ) → FromFirst p 0 None
+  unfolding records
+  from_end p = record { low = λ j q. absurd (none-some q); same = refl }
+
+  from_here : (p i : ℕ) → 0 < i → i ≤ get_or w 3 0 → priority_at t i ≡ p → FromFirst p i (Some i)
+  unfolding tie_from
+  from_here p i a h e =
+      record {
+        low = λ j q. let z : i ≡ j = some_inj q in (omega arith, omega arith);
+        same = ap (λ (q : ℕ). map (leaf_of_record t) (with t q (records t i))) (sym e);
+      }
 
   from_first : (p k i : ℕ) → i ≤ k → i ≤ get_or w 3 0 → FromFirst p i (first_with t p i)
-  from_first p zero i b h =
-      let e : i ≡ 0 = omega arith in
-      rw e (rw (first-end p) (record { same = refl; low = omega arith; has = inl refl }))
+  from_first p zero i b h = let e : i ≡ 0 = omega arith in rw e (rw (first-end p) (from_end p))
   from_first p (suc k) i b h = go (is (eqb i 0)) (is (eqb (priority_at t i) p)) (from_first p k)
     where
       go : Is (eqb i 0) → Is (eqb (priority_at t i) p) → ((i : ℕ) → i ≤ k → i ≤ get_or w 3 0 → FromFirst p i (first_with t p i)) → FromFirst p i (first_with t p i)
-      go (yes-is z) q f =
-          let e : i ≡ 0 = eqb-true i 0 z in
-          rw e (rw (first-end p) (record { same = refl; low = omega arith; has = inl refl }))
+      go (yes-is z) q f = let e : i ≡ 0 = eqb-true i 0 z in rw e (rw (first-end p) (from_end p))
       go (no-is z) (yes-is q) f =
           let z' : i ≡ 0 → ⊥ = eqb-false i 0 z in
           let a : 0 < i = omega (arith, z') in
           let e : priority_at t i ≡ p = eqb-true (priority_at t i) p q in
-          rw (first-here p i a h e) (record { same = refl; low = omega arith; has = inr e })
+          rw (first-here p i a h e) (from_here p i a h e)
       go (no-is z) (no-is q) f =
           let z' : i ≡ 0 → ⊥ = eqb-false i 0 z in
           let a : 0 < i = omega (arith, z') in
           let n = next-below w legal i a h in
           let r = f (next i) (omega arith) (omega arith) in
-          let l = r.low in
           rw (first-later p i a h (eqb-false (priority_at t i) p q))
           (record {
-            same = ap (with t p) (records-step i a h) ∙ rw (q, those) r.same;
-            low = omega arith;
-            has = r.has;
+            low = λ j k. let l = r.low j k in (l.0, omega arith);
+            same = ap (λ (l : List ℕ). map (leaf_of_record t) (with t p l)) (records-step i a h) ∙ rw (q, those) r.same;
           })
 
-  pub first-low : (p i : ℕ) → i ≤ get_or w 3 0 → first_with t p i ≤ i
-  first-low p i h = (from_first p i i (omega arith) h).low
+  pub first-low : (p i j : ℕ) → i ≤ get_or w 3 0 → first_with t p i ≡ Some j → (0 < j) × (j ≤ i)
+  first-low p i j h e = (from_first p i i (omega arith) h).low j e
 
   -- so they are the tie that begins there
-  tie_there : (p i : ℕ) → i ≤ get_or w 3 0 → map (leaf_of_record t) (with t p (records t i)) ≡ tie_from t (first_with t p i)
-  unfolding tie_from
-  tie_there p i h =
-      let r = from_first p i i (omega arith) h in
-      let f = first_with t p i in
-      ap (map (leaf_of_record t)) r.same
-      ∙ ⊎_elim
-      (λ e. rw e (rw records-end))
-      (λ e. ap (λ (q : ℕ). map (leaf_of_record t) (with t q (records t f))) (sym e))
-      r.has
+  tie_there : (p i : ℕ) → i ≤ get_or w 3 0 → map (leaf_of_record t) (with t p (records t i)) ≡ tie_at t (first_with t p i)
+  tie_there p i h = (from_first p i i (omega arith) h).same
 
   -- ---- the laws that walks use
-
-  pub tie_end : tie_from t 0 ≡ []
-  unfolding tie_from records
-  tie_end = refl
 
   tie-head : (i : ℕ) → 0 < i → i ≤ get_or w 3 0 → tie_from t i ≡ (match_of t i).leaf ∷ map (leaf_of_record t) (with t (priority_at t i) (records t (next i)))
   unfolding tie_from
   tie-head i a h = rw (records-step i a h) (rw (eq-eqb (priority_at t i) (priority_at t i) refl, those))
 
-  pub tie-step : (i : ℕ) → 0 < i → i ≤ get_or w 3 0 → tie_from t i ≡ (match_of t i).leaf ∷ tie_from t (next_tied t i)
+  pub tie-step : (i : ℕ) → 0 < i → i ≤ get_or w 3 0 → tie_from t i ≡ (match_of t i).leaf ∷ tie_at t (next_tied t i)
   unfolding next_tied
   tie-step i a h =
       let n = next-below w legal i a h in
       tie-head i a h ∙ ap {B = List ℕ} (λ r. (match_of t i).leaf ∷ r) (tie_there (priority_at t i) (next i) (omega arith))
 
-  pub next-tied-low : (i : ℕ) → 0 < i → i ≤ get_or w 3 0 → next_tied t i < i
+  pub next-tied-low : (i j : ℕ) → 0 < i → i ≤ get_or w 3 0 → next_tied t i ≡ Some j → (0 < j) × (j < i)
   unfolding next_tied
-  next-tied-low i a h =
+  next-tied-low i j a h e =
       let n = next-below w legal i a h in
-      let l = first-low (priority_at t i) (next i) (omega arith) in
-      omega arith
+      let l = first-low (priority_at t i) (next i) j (omega arith) e in
+      (l.0, omega arith)
 
-  pub top-low : (s : ℕ) → top_of t s ≤ get_or w 3 0
+  pub top-low : (s i : ℕ) → top_of t s ≡ Some i → (0 < i) × (i ≤ get_or w 3 0)
   unfolding top_of
-  top-low s =
+  top-low s i e =
       let h = head-fits w legal s in
-      let l = first-low (highest_from t (row_of t s).head) (row_of t s).head h in
-      omega arith
+      let l = first-low (highest_from t (row_of t s).head) (row_of t s).head i h e in
+      (l.0, omega arith)
 
-  pub contenders-top : (s : ℕ) → contenders t s ≡ tie_from t (top_of t s)
+  pub contenders-top : (s : ℕ) → contenders t s ≡ tie_at t (top_of t s)
   unfolding top_of
   contenders-top s = contenders-by t s ∙ tie_there (highest_from t (row_of t s).head) (row_of t s).head (head-fits w legal s)
 
   -- ---- a state's leaf
 
   module _ (s : ℕ) where
-    pub leaf-none : top_of t s ≡ 0 → leaf_of t s ≡ none
+    pub leaf-none : top_of t s ≡ None → leaf_of t s ≡ None
     unfolding leaf_of
-    leaf-none e = ap single (contenders-top s ∙ ap (tie_from t) e ∙ tie_end)
+    leaf-none e = ap single (contenders-top s ∙ ap (tie_at t) e)
 
-    module _ (some-top : 0 < top_of t s) where
-      tie-on : contenders t s ≡ (match_of t (top_of t s)).leaf ∷ tie_from t (next_tied t (top_of t s))
-      tie-on = contenders-top s ∙ tie-step (top_of t s) some-top (top-low s)
+    module _ (i : ℕ) (top : top_of t s ≡ Some i) where
+      tie-on : contenders t s ≡ (match_of t i).leaf ∷ tie_at t (next_tied t i)
+      tie-on = let l = top-low s i top in contenders-top s ∙ ap (tie_at t) top ∙ tie-step i l.0 l.1
 
-      pub leaf-one : next_tied t (top_of t s) ≡ 0 → leaf_of t s ≡ some (match_of t (top_of t s)).leaf
+      pub leaf-one : next_tied t i ≡ None → leaf_of t s ≡ Some (match_of t i).leaf
       unfolding leaf_of
-      leaf-one e = ap single (tie-on ∙ ap {B = List ℕ} (λ r. (match_of t (top_of t s)).leaf ∷ r) (ap (tie_from t) e ∙ tie_end))
+      leaf-one e = ap single (tie-on ∙ ap (λ (o : Option ℕ). (match_of t i).leaf ∷ tie_at t o) e)
 
-      pub leaf-tied : 0 < next_tied t (top_of t s) → leaf_of t s ≡ none
+      pub leaf-tied : (j : ℕ) → next_tied t i ≡ Some j → leaf_of t s ≡ None
       unfolding leaf_of
-      leaf-tied a =
-          let i = next_tied t (top_of t s) in
-          let l = next-tied-low (top_of t s) some-top (top-low s) in
-          let r = top-low s in
-          ap single (tie-on ∙ ap {B = List ℕ} (λ r. (match_of t (top_of t s)).leaf ∷ r) (tie-step i a (omega arith)))
+      leaf-tied j e =
+          let l = top-low s i top in
+          let b = next-tied-low i j l.0 l.1 e in
+          ap single (tie-on ∙ ap (λ (o : Option ℕ). (match_of t i).leaf ∷ tie_at t o) e ∙ ap {B = List ℕ} (λ r. (match_of t i).leaf ∷ r) (tie-step j b.0 (omega arith)))

@@ -1,133 +1,83 @@
-// Rule 3: the leaf of a state, or the tie that stands in its place. A chain is walked by the numbers of its match records; 0 ends it.
+// Rule 3: the leaf of a state, or the tie that stands in its place. A chain is walked by the numbers of its match records.
 #![tactic(auto)]
 
-ghost use Rattle.std.specs.Prelude.{◌≡◌, ◌<◌, ◌≤◌, get_or};
-ghost use Rattle.std.proofs.Math.Option;
-ghost use Rattle.graph_rules.specs.Table.{table_of, refusal, row_of, match_of};
+ghost use Rattle.std.specs.Prelude.{◌≡◌, ◌<◌, ◌≤◌, get_or, unwrap_or, IfSome};
+ghost use Rattle.std.specs.Option.{ForSome};
+ghost use Rattle.graph_rules.specs.Table.{table_of};
 ghost use Rattle.graph_rules.specs.Build.{leaf_of};
-ghost use Rattle.graph_rules.specs.Layout.{no_leaf, match_place};
 ghost use Rattle.leaves.specs.Chains.{priority_at, highest_from, first_with, top_of, next_tied};
 
-use words::graph::NO_LEAF;
-use words::table::{HEAD, leaf_word, leaves, match_word, row_word, states};
-
-// The head of state s's chain.
-pub fn head(table: &[u16], s: usize) -> usize
-    requires table_value { refusal table.now ≡ 0 }
-    requires s_bound { s < get_or table.now 0 0 }
-    ensures { (result ≡ (row_of (table_of table.now) s).head) × (result ≤ get_or table.now 3 0) }
-{
-    row_word(table, leaves(table), s, HEAD)
-}
-
-// Word c, 0 or 1, of match record i.
-fn record_word(table: &[u16], i: usize, c: usize) -> usize
-    requires table_value { refusal table.now ≡ 0 }
-    requires i_nonzero { 0 < i }
-    requires i_bound { i ≤ get_or table.now 3 0 }
-    requires c_bound { c < 2 }
-    ensures { result ≡ get_or table.now (match_place (get_or table.now 2 0) (get_or table.now 0 0) i c) 0 }
-{
-    match_word(table, leaves(table), states(table), i, c)
-}
-
-// The leaf of match record i.
-pub fn match_leaf(table: &[u16], i: usize) -> usize
-    requires table_value { refusal table.now ≡ 0 }
-    requires i_nonzero { 0 < i }
-    requires i_bound { i ≤ get_or table.now 3 0 }
-    ensures { (result ≡ (match_of (table_of table.now) i).leaf) × (result < get_or table.now 2 0) }
-{
-    record_word(table, i, 0)
-}
-
-// The record after record i; 0 if it is the chain's last.
-fn match_next(table: &[u16], i: usize) -> usize
-    requires table_value { refusal table.now ≡ 0 }
-    requires i_nonzero { 0 < i }
-    requires i_bound { i ≤ get_or table.now 3 0 }
-    ensures { (result ≡ (match_of (table_of table.now) i).next) × (result < i) }
-{
-    record_word(table, i, 1)
-}
+use legal::Table;
 
 // The priority of record i's leaf, from its two halves.
-fn priority(table: &[u16], i: usize) -> usize
-    requires table_value { refusal table.now ≡ 0 }
+fn priority(table: Table<'_>, i: usize) -> usize
     requires i_nonzero { 0 < i }
-    requires i_bound { i ≤ get_or table.now 3 0 }
-    ensures { result ≡ priority_at (table_of table.now) i }
+    requires i_bound { i ≤ get_or table.words.now 3 0 }
+    ensures { result ≡ priority_at (table_of table.entry.words.now) i }
 {
-    let leaf = match_leaf(table, i);
-    leaf_word(table, leaf, 0) + 65536 * leaf_word(table, leaf, 1)
+    let leaf = table.match_leaf(i);
+    table.leaf_word(leaf, 0) + 65536 * table.leaf_word(leaf, 1)
 }
 
-// The highest priority in the chain from record i.
-fn highest(table: &[u16], i: usize) -> usize
-    requires table_value { refusal table.now ≡ 0 }
-    requires i_bound { i ≤ get_or table.now 3 0 }
-    ensures { result ≡ highest_from (table_of table.now) i }
+// The highest priority in the chain from this record on. A while, here and below: the next record is known only from this one, and no index is counted.
+fn highest(table: Table<'_>, from: Option<usize>) -> usize
+    requires { ForSome from (λ i. (0 < i) × (i ≤ get_or table.words.now 3 0)) }
+    ensures { result ≡ highest_from (table_of table.entry.words.now) (unwrap_or from 0) }
 {
-    let mut top: usize = 0;
-    let mut j = i;
-    while j != 0 {
-        let p = priority(table, j);
-        j = match_next(table, j);
-        if top < p {
-            top = p;
-        }
+    let mut top = 0;
+    let mut at = from;
+    while let Some(i) = at {
+        top = top.max(priority(table, i));
+        at = table.match_next(i);
     }
     top
 }
 
-// The first record of the chain from record i whose leaf has priority p; 0 if there is none.
-fn first_with(table: &[u16], p: usize, i: usize) -> usize
-    requires table_value { refusal table.now ≡ 0 }
-    requires i_bound { i ≤ get_or table.now 3 0 }
-    ensures { result ≡ first_with (table_of table.now) p i }
+// The first record whose leaf has priority p in the chain from this record on.
+fn first_with(table: Table<'_>, p: usize, from: Option<usize>) -> Option<usize>
+    requires { ForSome from (λ i. (0 < i) × (i ≤ get_or table.words.now 3 0)) }
+    ensures value { result ≡ first_with (table_of table.entry.words.now) p (unwrap_or from 0) }
+    ensures number { IfSome result (λ j. (0 < j) × (j ≤ unwrap_or from 0)) }
 {
-    let mut j = i;
-    while j != 0 {
-        if priority(table, j) == p {
-            return j;
+    let mut at = from;
+    while let Some(i) = at {
+        if priority(table, i) == p {
+            return at;
         }
-        j = match_next(table, j);
+        at = table.match_next(i);
     }
-    0
+    None
 }
 
-// The first record of state s's chain whose leaf has the highest priority in it; 0 if the chain is empty.
-pub fn top(table: &[u16], s: usize) -> usize
-    requires table_value { refusal table.now ≡ 0 }
-    requires s_bound { s < get_or table.now 0 0 }
-    ensures { (result ≡ top_of (table_of table.now) s) × (result ≤ get_or table.now 3 0) }
+// The first record of state s's chain whose leaf has the highest priority in it; none: the chain is empty.
+pub fn top(table: Table<'_>, s: usize) -> Option<usize>
+    requires { s < get_or table.words.now 0 0 }
+    ensures value { result ≡ top_of (table_of table.entry.words.now) s }
+    ensures number { IfSome result (λ i. (0 < i) × (i ≤ get_or table.entry.words.now 3 0)) }
 {
-    let i = head(table, s);
-    first_with(table, highest(table, i), i)
+    let head = table.head(s);
+    first_with(table, highest(table, head), head)
 }
 
-// The next record after record i whose leaf has the same priority; 0 if there is none.
-pub fn next_tied(table: &[u16], i: usize) -> usize
-    requires table_value { refusal table.now ≡ 0 }
+// The next record after record i whose leaf has the same priority.
+pub fn next_tied(table: Table<'_>, i: usize) -> Option<usize>
     requires i_nonzero { 0 < i }
-    requires i_bound { i ≤ get_or table.now 3 0 }
-    ensures { (result ≡ next_tied (table_of table.now) i) × (result < i) }
+    requires i_bound { i ≤ get_or table.words.now 3 0 }
+    ensures value { result ≡ next_tied (table_of table.entry.words.now) i }
+    ensures number { IfSome result (λ j. (0 < j) × (j < i)) }
 {
-    first_with(table, priority(table, i), match_next(table, i))
+    first_with(table, priority(table, i), table.match_next(i))
 }
 
-// State s's leaf; NO_LEAF if its chain is empty, or if several share the highest priority.
-pub fn leaf_of(table: &[u16], s: usize) -> usize
-    requires table_value { refusal table.now ≡ 0 }
-    requires s_bound { s < get_or table.now 0 0 }
-    ensures { result ≡ Option.get_or (leaf_of (table_of table.now) s) no_leaf }
+// State s's leaf; none if its chain is empty, or if several share the highest priority.
+pub fn leaf_of(table: Table<'_>, s: usize) -> Option<usize>
+    requires { s < get_or table.words.now 0 0 }
+    ensures value { result ≡ leaf_of (table_of table.entry.words.now) s }
+    ensures leaf { IfSome result (λ l. l < get_or table.entry.words.now 2 0) }
 {
-    let i = top(table, s);
-    if i == 0 {
-        return NO_LEAF;
+    let i = top(table, s)?;
+    match next_tied(table, i) {
+        Some(_) => None,
+        None => Some(table.match_leaf(i)),
     }
-    if next_tied(table, i) != 0 {
-        return NO_LEAF;
-    }
-    match_leaf(table, i)
 }

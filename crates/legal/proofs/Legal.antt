@@ -1,6 +1,7 @@
 -- Legal words both ways (`legal-means`, `legal-shown`): refusal 0 says of the flat words what `Legal` says, and words that are `Legal` are not refused.
 -- The lowest condition that is broken is the refusal (`refused`). Assumes nothing.
-use mathlib.Core.Path.{◌≡◌, refl, sym, ◌∙◌}
+use Rattle.std.specs.Prelude.{◌||◌}
+use mathlib.Core.Path.{◌≡◌, refl, sym, ap, ◌∙◌}
 use mathlib.Core.Bool.{Bool, true, false, false≢true}
 use mathlib.Core.List.{List, [], ◌∷◌}
 use mathlib.Core.Logic.{◌⊎◌, inl, inr, ⊎_elim}
@@ -8,12 +9,13 @@ use Prim.Native.Nat.{ℕ, zero, suc, ◌+◌, ◌≤◌, ◌<◌, zero-le, suc-l
 use native.Mathlib.Nat.{not-suc-le-zero, le_of_suc-le-suc}
 use native.Mathlib.Omega.{arith}
 use borrow.Author.Count.{below_more}
-use borrow.Author.Tests.{eqb-true, ltb-true, leb-true, lt-ltb, le-leb, eq-eqb}
+use borrow.Author.Tests.{eqb-true, ltb-true, leb-true, lt-ltb, le-leb, eq-eqb, lt-leb, ne_eqb}
 use lib.Dec.{eqb, leb, ltb}
 use lib.ListN.{length, get_or}
-use Rattle.lists.proofs.Bools.{and_both, and_intro, or_cases, or_left, or_right}
+use Rattle.lists.proofs.Bools.{and-right-false, and_both, and_intro, or_cases, or_left, or_right}
 use Rattle.graph_rules.specs.Table.{conditions, first_broken, refusal, counts_fit, empties_fit, targets_fit, heads_fit, records_fit}
 use Rattle.graph_rules.proofs.Shape.{none-broken}
+use Rattle.refusals.specs.Refusals.{numbered}
 use Rattle.graph_rules.specs.Layout.{no_state, most_states, most_leaves, most_matches, table_length}
 use Rattle.legal.specs.Conditions.{states, leaves, records, Sized, Legal}
 use Rattle.legal.proofs.Judging.{empties-judged, targets-judged, heads-judged, records-all, records-each}
@@ -136,3 +138,76 @@ module _ (w : List ℕ) where
       ((empties-judged w).all l.empties))
       ((targets-judged w l.sized).all (λ s h c k. l.targets s c h k)))
       (and_intro (heads_fit w) (records_fit w) ((heads-judged w).all l.heads) (records-all w l.matches)))
+
+  -- ---- what is refused
+
+  abbrev Told : ℕ → Type 0
+  Told k = (numbered (k + 1) ≡ numbered (refusal w)) × (refusal w ≡ 0 → ⊥)
+
+  told : (k : ℕ) → k < 7 → Passed w k → get_or (conditions w) k true ≡ false → Told k
+  told k h f e = let r = refused k h f e in (ap numbered (sym r), λ z. absurd (omega arith))
+
+  long-passed : 4 ≤ length w → Passed w 1
+  unfolding conditions counts_fit empties_fit targets_fit heads_fit records_fit
+  long-passed h = passed-more 0 passed_none (le-leb 4 (length w) h)
+
+  pub told-short : length w < 4 → (numbered 1 ≡ numbered (refusal w)) × (refusal w ≡ 0 → ⊥)
+  unfolding conditions counts_fit empties_fit targets_fit heads_fit records_fit
+  told-short h = told 0 (omega arith) passed_none (lt-leb 4 (length w) h)
+
+  module _ (n m r : ℕ) (long : 4 ≤ length w) (a : n ≡ states w) (b : m ≡ leaves w) (c : r ≡ records w) where
+    pub told-counts : counts_fit n m r ≡ false → (numbered 2 ≡ numbered (refusal w)) × (refusal w ≡ 0 → ⊥)
+    told-counts e = told 1 (omega arith) (long-passed long) (sym (counts-are n m r a b c) ∙ e)
+
+    counted : counts_fit n m r ≡ true → Passed w 2
+    counted e = passed-more 1 (long-passed long) (sym (counts-are n m r a b c) ∙ e)
+
+    pub told-length : counts_fit n m r ≡ true → (length w ≡ table_length n m r → ⊥) → (numbered 3 ≡ numbered (refusal w)) × (refusal w ≡ 0 → ⊥)
+    unfolding conditions counts_fit empties_fit targets_fit heads_fit records_fit
+    told-length e z =
+        told 2 (omega arith) (counted e) (ne_eqb (length w) (table_length (states w) (leaves w) (records w)) (λ q. z (omega arith)))
+
+    pub sized-is : counts_fit n m r ≡ true → length w ≡ table_length n m r → Sized w
+    unfolding conditions counts_fit empties_fit targets_fit heads_fit records_fit
+    sized-is e q =
+        sized-means (passed-more 2 (counted e) (eq-eqb (length w) (table_length (states w) (leaves w) (records w)) (omega arith)))
+
+  module _ (z : Sized w) where
+    pub told-start : (ltb (get_or w 1 0) (get_or w 0 0) || eqb (get_or w 1 0) no_state) ≡ false → (numbered 4 ≡ numbered (refusal w)) × (refusal w ≡ 0 → ⊥)
+    unfolding conditions counts_fit empties_fit targets_fit heads_fit records_fit
+    told-start e = told 3 (omega arith) (sized-shown z) e
+
+    module _ (started : (ltb (get_or w 1 0) (get_or w 0 0) || eqb (get_or w 1 0) no_state) ≡ true) where
+      start-passed : Passed w 4
+      unfolding conditions counts_fit empties_fit targets_fit heads_fit records_fit
+      start-passed = passed-more 3 (sized-shown z) started
+
+      pub told-empties : empties_fit w ≡ false → (numbered 5 ≡ numbered (refusal w)) × (refusal w ≡ 0 → ⊥)
+      unfolding conditions
+      told-empties e = told 4 (omega arith) start-passed e
+
+      module _ (empties : empties_fit w ≡ true) where
+        empties-passed : Passed w 5
+        unfolding conditions
+        empties-passed = passed-more 4 start-passed empties
+
+        pub told-targets : targets_fit w ≡ false → (numbered 6 ≡ numbered (refusal w)) × (refusal w ≡ 0 → ⊥)
+        unfolding conditions
+        told-targets e = told 5 (omega arith) empties-passed e
+
+        module _ (targets : targets_fit w ≡ true) where
+          targets-passed : Passed w 6
+          unfolding conditions
+          targets-passed = passed-more 5 empties-passed targets
+
+          pub told-heads : heads_fit w ≡ false → (numbered 7 ≡ numbered (refusal w)) × (refusal w ≡ 0 → ⊥)
+          unfolding conditions
+          told-heads e = told 6 (omega arith) targets-passed (rw e)
+
+          pub told-records : records_fit w ≡ false → (numbered 7 ≡ numbered (refusal w)) × (refusal w ≡ 0 → ⊥)
+          unfolding conditions
+          told-records e = told 6 (omega arith) targets-passed (and-right-false (heads_fit w) (records_fit w) e)
+
+          pub none-refused : heads_fit w ≡ true → records_fit w ≡ true → refusal w ≡ 0
+          unfolding conditions
+          none-refused a b = passed-all (passed-more 6 targets-passed (and_intro (heads_fit w) (records_fit w) a b))

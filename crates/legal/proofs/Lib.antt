@@ -1,3 +1,4 @@
 pub mod Judging
 pub mod Legal
 pub mod Steps
+pub mod Views

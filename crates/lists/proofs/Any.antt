@@ -1,8 +1,8 @@
 -- Some element of a list passes a test: from its index, back to an index, and one element more. Assumes nothing.
+use Rattle.std.specs.Prelude.{Option, Some, None}
 use mathlib.Core.Path.{◌≡◌, sym, ap, ◌∙◌}
 use mathlib.Core.Bool.{Bool, true, false≢true, ◌||◌}
 use mathlib.Core.List.{List, [], ◌∷◌, ◌++◌}
-use mathlib.Core.Option.{Option, none, some}
 use mathlib.Core.Logic.{⊎_elim}
 use Prim.Native.Nat.{ℕ, zero, suc, ◌<◌, zero-le, suc-le-suc}
 use native.Mathlib.Nat.{not-suc-le-zero, le_of_suc-le-suc}
@@ -31,10 +31,10 @@ any_snoc p (y ∷ l) x = ap (λ (b : Bool). p y || b) (any_snoc p l x) ∙ sym (
 
 -- ---- a number among options
 
-pub option-any : (l : List (Option ℕ)) (c u : ℕ) → get_or l c none ≡ some u → any_l (eq_option (some u)) l ≡ true
+pub option-any : (l : List (Option ℕ)) (c u : ℕ) → get_or l c None ≡ Some u → any_l (eq_option (Some u)) l ≡ true
 option-any [] c u e = absurd (none-some e)
-option-any (o ∷ l) zero u e = or_left _ _ (ap (eq_option (some u)) e ∙ option-sound.self (some u))
-option-any (o ∷ l) (suc c) u e = or_right (eq_option (some u) o) _ (option-any l c u e)
+option-any (o ∷ l) zero u e = or_left _ _ (ap (eq_option (Some u)) e ∙ option-sound.self (Some u))
+option-any (o ∷ l) (suc c) u e = or_right (eq_option (Some u) o) _ (option-any l c u e)
 
-pub any-option : (l : List (Option ℕ)) (u : ℕ) → any_l (eq_option (some u)) l ≡ true → (c : ℕ) × (get_or l c none ≡ some u)
-any-option l u h = let (c, b, e) = any_found (eq_option (some u)) none l h in (c, sym (option-sound.eq (some u) (get_or l c none) e))
+pub any-option : (l : List (Option ℕ)) (u : ℕ) → any_l (eq_option (Some u)) l ≡ true → (c : ℕ) × (get_or l c None ≡ Some u)
+any-option l u h = let (c, b, e) = any_found (eq_option (Some u)) None l h in (c, sym (option-sound.eq (Some u) (get_or l c None) e))

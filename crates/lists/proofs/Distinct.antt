@@ -1,8 +1,8 @@
 -- The distinct elements of a list, and the place of an element among them. Assumes nothing.
+use Rattle.std.specs.Prelude.{Option, Some, None}
 use mathlib.Core.Path.{◌≡◌, refl, sym, ap, subst, ◌∙◌}
 use mathlib.Core.Bool.{Bool, true, false, not, cond, false≢true}
 use mathlib.Core.List.{List, [], ◌∷◌, ◌++◌, append-nil, append_assoc}
-use mathlib.Core.Option.{Option, none, some}
 use mathlib.Core.Logic.{◌⊎◌, inl, inr, ⊎_elim}
 use Prim.Native.Nat.{ℕ, zero, suc, ◌≤◌, ◌<◌, zero-le, suc-le-suc}
 use native.Mathlib.Nat.{not-suc-le-zero, le_of_suc-le-suc}
@@ -17,53 +17,53 @@ use Rattle.lists.proofs.Those.{those-yes, those-no, those-length, those-all, tho
 module _ {A : Type 0} (same : A → A → Bool) (sound : Sound same) where
   -- ---- the place of an element
 
-  place_here : (x y : A) (l : List A) → same x y ≡ true → place same x (y ∷ l) ≡ some 0
+  place_here : (x y : A) (l : List A) → same x y ≡ true → place same x (y ∷ l) ≡ Some 0
   place_here x y l q = rw (q, place)
 
-  place-later : (x y : A) (l : List A) → same x y ≡ false → (j : ℕ) → place same x l ≡ some j → place same x (y ∷ l) ≡ some (suc j)
+  place-later : (x y : A) (l : List A) → same x y ≡ false → (j : ℕ) → place same x l ≡ Some j → place same x (y ∷ l) ≡ Some (suc j)
   place-later x y l n j e = rw (n, place) (rw (e, place))
 
-  place-never : (x y : A) (l : List A) → same x y ≡ false → place same x l ≡ none → place same x (y ∷ l) ≡ none
+  place-never : (x y : A) (l : List A) → same x y ≡ false → place same x l ≡ None → place same x (y ∷ l) ≡ None
   place-never x y l n e = rw (n, place) (rw (e, place))
 
-  pub place-some : (x : A) (l : List A) → any_l (same x) l ≡ true → (j : ℕ) × (place same x l ≡ some j)
+  pub place-some : (x : A) (l : List A) → any_l (same x) l ≡ true → (j : ℕ) × (place same x l ≡ Some j)
   place-some x [] h = absurd (false≢true h)
   place-some x (y ∷ l) h = go (is (same x y)) (place-some x l)
     where
-      go : Is (same x y) → (any_l (same x) l ≡ true → (j : ℕ) × (place same x l ≡ some j)) → (j : ℕ) × (place same x (y ∷ l) ≡ some j)
+      go : Is (same x y) → (any_l (same x) l ≡ true → (j : ℕ) × (place same x l ≡ Some j)) → (j : ℕ) × (place same x (y ∷ l) ≡ Some j)
       go (yes-is q) f = (0, place_here x y l q)
       go (no-is q) f = let (j, e) = f (rw q at h) in (suc j, place-later x y l q j e)
 
-  pub place_at : (d x : A) (l : List A) (j : ℕ) → place same x l ≡ some j → (j < length l) × (get_or l j d ≡ x)
+  pub place_at : (d x : A) (l : List A) (j : ℕ) → place same x l ≡ Some j → (j < length l) × (get_or l j d ≡ x)
   place_at d x [] j e = absurd (none-some e)
   place_at d x (y ∷ l) j e = go (is (same x y)) (place same x l) refl (place_at d x l)
     where
-      go : Is (same x y) → (o : Option ℕ) → place same x l ≡ o → ((i : ℕ) → place same x l ≡ some i → (i < length l) × (get_or l i d ≡ x))
+      go : Is (same x y) → (o : Option ℕ) → place same x l ≡ o → ((i : ℕ) → place same x l ≡ Some i → (i < length l) × (get_or l i d ≡ x))
           → (j < length (y ∷ l)) × (get_or (y ∷ l) j d ≡ x)
       go (yes-is q) o r f =
           subst (λ (i : ℕ). (i < length (y ∷ l)) × (get_or (y ∷ l) i d ≡ x)) (some_inj (sym (place_here x y l q) ∙ e))
           (suc-le-suc zero-le, sym (sound.eq x y q))
-      go (no-is q) none r f = absurd (none-some (sym (place-never x y l q r) ∙ e))
-      go (no-is q) (some i) r f =
+      go (no-is q) None r f = absurd (none-some (sym (place-never x y l q r) ∙ e))
+      go (no-is q) (Some i) r f =
           let (b, v) = f i r in
           subst (λ (i : ℕ). (i < length (y ∷ l)) × (get_or (y ∷ l) i d ≡ x)) (some_inj (sym (place-later x y l q i r) ∙ e)) (suc-le-suc b, v)
 
   -- the place stays where the list goes on; a new element's place is the length
-  pub place-append : (x : A) (l m : List A) (j : ℕ) → place same x l ≡ some j → place same x (l ++ m) ≡ some j
+  pub place-append : (x : A) (l m : List A) (j : ℕ) → place same x l ≡ Some j → place same x (l ++ m) ≡ Some j
   place-append x [] m j e = absurd (none-some e)
   place-append x (y ∷ l) m j e = go (is (same x y)) (place same x l) refl (place-append x l m)
     where
-      go : Is (same x y) → (o : Option ℕ) → place same x l ≡ o → ((i : ℕ) → place same x l ≡ some i → place same x (l ++ m) ≡ some i)
-          → place same x (y ∷ (l ++ m)) ≡ some j
+      go : Is (same x y) → (o : Option ℕ) → place same x l ≡ o → ((i : ℕ) → place same x l ≡ Some i → place same x (l ++ m) ≡ Some i)
+          → place same x (y ∷ (l ++ m)) ≡ Some j
       go (yes-is q) o r f = place_here x y (l ++ m) q ∙ sym (place_here x y l q) ∙ e
-      go (no-is q) none r f = absurd (none-some (sym (place-never x y l q r) ∙ e))
-      go (no-is q) (some i) r f = place-later x y (l ++ m) q i (f i r) ∙ sym (place-later x y l q i r) ∙ e
+      go (no-is q) None r f = absurd (none-some (sym (place-never x y l q r) ∙ e))
+      go (no-is q) (Some i) r f = place-later x y (l ++ m) q i (f i r) ∙ sym (place-later x y l q i r) ∙ e
 
-  pub place-new : (x : A) (l : List A) → any_l (same x) l ≡ false → place same x (l ++ x ∷ []) ≡ some (length l)
+  pub place-new : (x : A) (l : List A) → any_l (same x) l ≡ false → place same x (l ++ x ∷ []) ≡ Some (length l)
   place-new x [] h = place_here x x [] (sound.self x)
   place-new x (y ∷ l) h = go (is (same x y)) (place-new x l)
     where
-      go : Is (same x y) → (any_l (same x) l ≡ false → place same x (l ++ x ∷ []) ≡ some (length l)) → place same x (y ∷ (l ++ x ∷ [])) ≡ some (suc (length l))
+      go : Is (same x y) → (any_l (same x) l ≡ false → place same x (l ++ x ∷ []) ≡ Some (length l)) → place same x (y ∷ (l ++ x ∷ [])) ≡ Some (suc (length l))
       go (yes-is q) f = absurd (false≢true (sym h ∙ or_left _ _ q))
       go (no-is q) f = place-later x y (l ++ x ∷ []) q (length l) (f (rw q at h))
 
@@ -73,7 +73,7 @@ module _ {A : Type 0} (same : A → A → Bool) (sound : Sound same) where
     apart-nil : Apart []
     apart_cons : {x : A} {l : List A} → all_l (λ y. not (same x y)) l ≡ true → Apart l → Apart (x ∷ l)
 
-  pub place-apart : (d : A) (l : List A) → Apart l → (i : ℕ) → i < length l → place same (get_or l i d) l ≡ some i
+  pub place-apart : (d : A) (l : List A) → Apart l → (i : ℕ) → i < length l → place same (get_or l i d) l ≡ Some i
   place-apart d [] a i h = absurd (not-suc-le-zero h)
   place-apart d (x ∷ l) (apart_cons f a) zero h = place_here x x l (sound.self x)
   place-apart d (x ∷ l) (apart_cons f a) (suc i) h =
@@ -83,7 +83,7 @@ module _ {A : Type 0} (same : A → A → Bool) (sound : Sound same) where
 
   pub apart-differ : (d : A) (l : List A) → Apart l → (i j : ℕ) → i < j → j < length l → get_or l i d ≡ get_or l j d → ⊥
   apart-differ d l a i j h k e =
-      let p : some i ≡ some j = sym (place-apart d l a i (omega arith)) ∙ ap (λ (x : A). place same x l) e ∙ place-apart d l a j k in
+      let p : Some i ≡ Some j = sym (place-apart d l a i (omega arith)) ∙ ap (λ (x : A). place same x l) e ∙ place-apart d l a j k in
       let q : i ≡ j = some_inj p in
       omega arith
 
@@ -185,18 +185,18 @@ module _ {A : Type 0} (same : A → A → Bool) (sound : Sound same) where
       ⊎_elim (λ a. or_left _ _ a) (λ b. or_right (q x) _ (any-distinct q l (any-those (λ y. not (same x y)) q (distinct same l) b))) (or_cases (q x) _ h)
 
   -- a place that is found stays where the list goes on
-  pub distinct-prefix : (b a : List A) (x : A) (j : ℕ) → place same x (distinct same a) ≡ some j → place same x (distinct same (a ++ b)) ≡ some j
+  pub distinct-prefix : (b a : List A) (x : A) (j : ℕ) → place same x (distinct same a) ≡ Some j → place same x (distinct same (a ++ b)) ≡ Some j
   distinct-prefix [] a x j e = ap (λ (m : List A). place same x (distinct same m)) (append-nil a) ∙ e
   distinct-prefix (y ∷ b) a x j e =
       ap (λ (m : List A). place same x (distinct same m)) (sym (append_assoc a (y ∷ []) b))
       ∙ distinct-prefix b (a ++ y ∷ []) x j (ap (place same x) (distinct_snoc a y) ∙ one (any_l (same y) a))
     where
-      one : (t : Bool) → place same x (cond t (distinct same a) (distinct same a ++ y ∷ [])) ≡ some j
+      one : (t : Bool) → place same x (cond t (distinct same a) (distinct same a ++ y ∷ [])) ≡ Some j
       one true = e
       one false = place-append x (distinct same a) (y ∷ []) j e
 
   -- an element that equals none before it has as its place the number of distinct ones before it
-  pub distinct-new : (a b : List A) (x : A) → any_l (same x) a ≡ false → place same x (distinct same (a ++ x ∷ b)) ≡ some (length (distinct same a))
+  pub distinct-new : (a b : List A) (x : A) → any_l (same x) a ≡ false → place same x (distinct same (a ++ x ∷ b)) ≡ Some (length (distinct same a))
   distinct-new a b x n =
       ap (λ (m : List A). place same x (distinct same m)) (sym (append_assoc a (x ∷ []) b))
       ∙ distinct-prefix b (a ++ x ∷ []) x (length (distinct same a))

@@ -1,8 +1,8 @@
 -- A test of every element of a list, an element of a list made of a function, a test of equality, a list filled from the front. Assumes nothing.
+use Rattle.std.specs.Prelude.{Option, Some, None}
 use mathlib.Core.Path.{◌≡◌, refl, sym, ap, ◌∙◌}
 use mathlib.Core.Bool.{Bool, true, false, ◌&&◌, false≢true}
 use mathlib.Core.List.{List, [], ◌∷◌, ◌++◌, map}
-use mathlib.Core.Option.{Option, none, some}
 use Prim.Native.Nat.{ℕ, zero, suc, ◌+◌, ◌<◌, zero-le, suc-le-suc}
 use native.Mathlib.Nat.{not-suc-le-zero, le_of_suc-le-suc, add-zero}
 use native.Mathlib.Omega.{arith}
@@ -79,14 +79,14 @@ pub option-sound : Sound eq_option
 option-sound = record { eq = eq'; self = self' }
   where
     eq' : (a b : Option ℕ) → eq_option a b ≡ true → a ≡ b
-    eq' none none e = refl
-    eq' none (some b) e = absurd (false≢true e)
-    eq' (some a) none e = absurd (false≢true e)
-    eq' (some a) (some b) e = ap {B = Option ℕ} some (eqb-true a b e)
+    eq' None None e = refl
+    eq' None (Some b) e = absurd (false≢true e)
+    eq' (Some a) None e = absurd (false≢true e)
+    eq' (Some a) (Some b) e = ap {B = Option ℕ} Some (eqb-true a b e)
 
     self' : (a : Option ℕ) → eq_option a a ≡ true
-    self' none = refl
-    self' (some a) = eq-eqb a a refl
+    self' None = refl
+    self' (Some a) = eq-eqb a a refl
 
 module _ {A : Type 0} (same : A → A → Bool) (sound : Sound same) where
   list-eq : (a b : List A) → eq_list same a b ≡ true → a ≡ b

@@ -1,8 +1,8 @@
 -- Tests of every element of a list that is made piece by piece, and its pieces read back. Assumes nothing.
+use Rattle.std.specs.Prelude.{Option, Some, None}
 use mathlib.Core.Path.{◌≡◌, refl, sym, ap, ◌∙◌}
 use mathlib.Core.Bool.{Bool, true, false, false≢true}
 use mathlib.Core.List.{List, [], ◌∷◌, ◌++◌, map, flat_map, append_assoc}
-use mathlib.Core.Option.{Option, none, some}
 use mathlib.Core.Logic.{◌⊎◌, inl, inr}
 use Prim.Native.Nat.{ℕ, zero, suc, ◌+◌, ◌*◌, ◌<◌}
 use native.Mathlib.Nat.{suc-mul}
@@ -14,9 +14,9 @@ use lib.Seq.{take_at, drop_at}
 use Rattle.lists.specs.Lists.{tab, all_l, any_l, eq_option, pieces}
 use Rattle.lists.proofs.Bools.{or_cases, and_both, and_intro}
 
-pub option-ne : (u : ℕ) (o : Option ℕ) → (o ≡ some u → ⊥) → eq_option (some u) o ≡ false
-option-ne u none n = refl
-option-ne u (some v) n = ne_eqb u v (λ e. n (ap {B = Option ℕ} some (sym e)))
+pub option-ne : (u : ℕ) (o : Option ℕ) → (o ≡ Some u → ⊥) → eq_option (Some u) o ≡ false
+option-ne u None n = refl
+option-ne u (Some v) n = ne_eqb u v (λ e. n (ap {B = Option ℕ} Some (sym e)))
 
 abbrev pub is_member : ℕ → List ℕ → Bool
 is_member u l = any_l (eqb u) l

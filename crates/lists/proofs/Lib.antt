@@ -23,3 +23,4 @@ pub mod Chosen
 pub mod Numbers
 pub mod Reports
 pub mod Flattened
+pub mod Options

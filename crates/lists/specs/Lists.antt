@@ -1,6 +1,5 @@
 -- Operations on lists that the definitions use and that belong to no rule. Each computes. Definitions only; their laws are in proofs/.
-use Rattle.std.specs.Prelude.{Bool, true, false, not, ◌&&◌, ◌||◌, List, [], ◌∷◌, ℕ, zero, suc, eqb, ltb, take, drop}
-use Rattle.std.proofs.Math.Option.{Option, none, some}
+use Rattle.std.specs.Prelude.{Bool, true, false, not, ◌&&◌, ◌||◌, List, [], ◌∷◌, ℕ, zero, suc, eqb, ltb, take, drop, Option, Some, None}
 
 module _ {A : Type 0} where
   -- the n values of f from i on: f i, f (i + 1), ..
@@ -47,8 +46,8 @@ module _ {A : Type 0} where
 
   -- the index of the first element that equals x
   abbrev pub place : (A → A → Bool) → A → List A → Option ℕ
-  place same x [] = none
-  place same x (y ∷ l) = elim (same x y) [ true ↦ some 0 | false ↦ elim (place same x l) [ none ↦ none | some i ↦ some (suc i) ] ]
+  place same x [] = None
+  place same x (y ∷ l) = elim (same x y) [ true ↦ Some 0 | false ↦ elim (place same x l) [ None ↦ None | Some i ↦ Some (suc i) ] ]
 
   -- equality of lists, up to the first difference
   abbrev pub eq_list : (A → A → Bool) → List A → List A → Bool
@@ -58,16 +57,16 @@ module _ {A : Type 0} where
   eq_list same (x ∷ a) (y ∷ b) = elim (same x y) [ true ↦ eq_list same a b | false ↦ false ]
 
 abbrev pub eq_option : Option ℕ → Option ℕ → Bool
-eq_option none none = true
-eq_option none (some b) = false
-eq_option (some a) none = false
-eq_option (some a) (some b) = eqb a b
+eq_option None None = true
+eq_option None (Some b) = false
+eq_option (Some a) None = false
+eq_option (Some a) (Some b) = eqb a b
 
--- the members of a set, numbered from k in ascending order: `some` number at each member, `none` elsewhere
+-- the members of a set, numbered from k in ascending order: `Some` number at each member, `None` elsewhere
 abbrev pub number_from : ℕ → List Bool → List (Option ℕ)
 number_from k [] = []
-number_from k (true ∷ s) = some k ∷ number_from (suc k) s
-number_from k (false ∷ s) = none ∷ number_from k s
+number_from k (true ∷ s) = Some k ∷ number_from (suc k) s
+number_from k (false ∷ s) = None ∷ number_from k s
 
 -- lists ordered by their first difference, a shorter prefix first
 abbrev pub before : List ℕ → List ℕ → Bool

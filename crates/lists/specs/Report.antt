@@ -1,4 +1,4 @@
--- What a call tells, in numbers: "A refusal returns its number and zeros elsewhere". Each enum answer has a definition that gives it in these terms.
+-- What a call tells, in numbers: "A refusal returns its number and zeros elsewhere". Each answer has a definition that gives it in these terms.
 -- Definitions only.
 use Rattle.std.specs.Prelude.{Bool, cond, List, [], ◌∷◌, ℕ, zero, suc, length, replicate}
 

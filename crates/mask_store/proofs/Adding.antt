@@ -1,4 +1,5 @@
 -- One class added to a store, by cases and bit by bit: what the call `add` answers, and what every bit of the store is after it. Assumes nothing.
+use Rattle.std.specs.Prelude.{Ok, Err}
 use mathlib.Core.Path.{◌≡◌, refl, sym, ap, ◌∙◌}
 use mathlib.Core.Bool.{Bool, true, false, cond, not, ◌&&◌, ◌||◌}
 use mathlib.Core.List.{[], ◌∷◌, ◌++◌}
@@ -13,10 +14,10 @@ use Rattle.lists.specs.Report.{reporting, refusing}
 use Rattle.lists.proofs.Bools.{and_intro, Is, yes-is, no-is, is}
 use Rattle.classes.specs.Classes.{Class, has}
 use Rattle.mask_store.specs.declared.MaskStore.{MaskStore}
-use Rattle.mask_store.specs.declared.AddAnswer.TheVariants.{Number, Refused}
+use Rattle.refusals.specs.declared.Refusal.TheVariants.{Store}
 use Rattle.mask_store.specs.declared.Added.{Added}
 use Rattle.bits.specs.Bits.{bit}
-use Rattle.mask_store.specs.Layout.{table_size, table_masks, store_size, most_masks, mask_of, entry_place}
+use Rattle.mask_store.specs.Layout.{store_size, most_masks, mask_of, entry_place}
 use Rattle.mask_store.specs.Masks.{add, add_report, class_at, held, held_with, number_of, among, written, written_all, grown, store_of, allowed, takes, refused_with}
 use Rattle.mask_store.proofs.Numbers.{number_at, number-most}
 use Rattle.mask_store.proofs.Search.{allowed-count}
@@ -75,13 +76,13 @@ module _ (s : MaskStore) (c : Class) where
   add-not n = rw (takes_one, n)
 
   -- a class that is held, also by a full store
-  pub add-held : allowed s ≡ true → among (held s) c ≡ true → add s c ≡ record { answer = Number (number_of (held s) c); store = s }
+  pub add-held : allowed s ≡ true → among (held s) c ≡ true → add s c ≡ record { answer = Ok (number_of (held s) c); store = s }
   unfolding add
   add-held a q = rw (takes_one, a, q, grown-held q)
 
   -- a new class, with room for it
   pub add-new : allowed s ≡ true → among (held s) c ≡ false → s.count < most_masks
-      → add s c ≡ record { answer = Number s.count; store = store_of (written s.tables s.count c) (s.count + 1) }
+      → add s c ≡ record { answer = Ok s.count; store = store_of (written s.tables s.count c) (s.count + 1) }
   unfolding add
   add-new a n h = rw (takes_one, a, n, lt-ltb s.count most_masks h, grown-new n, next-number n)
 
@@ -95,7 +96,7 @@ module _ (s : MaskStore) (c : Class) where
   unfolding add
   add-report = go (takes s (c ∷ []))
     where
-      go : (t : Bool) → add_report (cond {A = Added} t (record { answer = Number (number_of (held s) c); store = grown s (c ∷ []) }) (record { answer = Refused 15; store = s })).answer
+      go : (t : Bool) → add_report (cond {A = Added} t (record { answer = Ok (number_of (held s) c); store = grown s (c ∷ []) }) (record { answer = Err Store; store = s })).answer
           ≡ cond t (reporting (number_of (held s) c ∷ [])) (refusing 15 1)
       go true = refl
       go false = refl
@@ -171,7 +172,7 @@ module _ (s : MaskStore) (c : Class) (size : length s.tables ≡ 2048) (wide : l
       go (case_full a n h) = rw (add-full s c a n h, takes_one s c, a, n, le-ltb s.count most_masks h)
 
   -- the class that was given has the number that is answered: an equal class kept it, a new one took the next
-  pub added-own : (i : ℕ) → (add s c).answer ≡ Number i → (i < (add s c).store.count) × (class_at (add s c).store.tables i ≡ c)
+  pub added-own : (i : ℕ) → (add s c).answer ≡ Ok i → (i < (add s c).store.count) × (class_at (add s c).store.tables i ≡ c)
   added-own i e = go (which s c)
     where
       go : Case s c → (i < (add s c).store.count) × (class_at (add s c).store.tables i ≡ c)

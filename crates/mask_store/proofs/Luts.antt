@@ -1,4 +1,5 @@
 -- The rendered tables: entry by entry, and bit by bit. Assumes nothing.
+use Rattle.std.specs.Prelude.{Ok, Err}
 use mathlib.Core.Path.{◌≡◌, sym, ap, ◌∙◌}
 use mathlib.Core.Bool.{true, false, cond}
 use mathlib.Core.List.{List, [], map}
@@ -7,12 +8,13 @@ use native.Mathlib.Nat.{zero-mod}
 use native.Mathlib.Omega.{arith}
 use borrow.Author.Tests.{ltb-true, ltb-false}
 use lib.Dec.{ltb}
-use lib.ListN.{length, get_or, drop, length-map, length-drop, replicate, get_or-map}
+use lib.ListN.{length, get_or, drop, length-map, length-drop, get_or-map}
 use lib.Seq.{length-take-le}
 use Rattle.lists.proofs.Elements.{length-tab, get_or-tab0}
 use Rattle.lists.proofs.Bools.{Is, yes-is, no-is, is}
 use Rattle.lists.proofs.Grid.{entry, Shape, grid-ext}
 use Rattle.classes.specs.Classes.{has}
+use Rattle.refusals.specs.declared.Refusal.TheVariants.{Store}
 use Rattle.mask_store.specs.declared.MaskStore.{MaskStore}
 use Rattle.bits.specs.Bits.{bit}
 use Rattle.mask_store.specs.Layout.{table_count, table_size, table_masks, store_size, mask_of, table_place, entry_place}
@@ -74,10 +76,10 @@ module _ (s : MaskStore) where
 
   -- ---- the call
 
-  pub render-allowed : allowed s ≡ true → render s ≡ record { refusal = 0; tables = luts s }
+  pub render-allowed : allowed s ≡ true → render s ≡ Ok (luts s)
   unfolding render
   render-allowed a = rw a
 
-  pub render-not : allowed s ≡ false → render s ≡ record { refusal = 15; tables = replicate table_count (replicate table_size 0) }
+  pub render-not : allowed s ≡ false → render s ≡ Err Store
   unfolding render
   render-not n = rw n

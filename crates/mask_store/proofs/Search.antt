@@ -17,7 +17,7 @@ use Rattle.mask_store.specs.declared.MaskStore.{MaskStore}
 use Rattle.bits.specs.Bits.{is_set}
 use Rattle.mask_store.specs.Layout.{store_size, most_masks, mask_table, mask_bit}
 use Rattle.mask_store.specs.Masks.{table_at, mask_has, class_at, held, same_class, number_of, among, none_twice, allowed}
-use Rattle.mask_store.proofs.Numbers.{beq-sound, same-eq, same_self, number-here, number-later}
+use Rattle.mask_store.proofs.Numbers.{beq-sound, same-eq, same_self, number-later}
 use Rattle.mask_store.proofs.MaskLaws.{mask-class, table-length}
 
 -- the classes of masks i, .., n - 1
@@ -62,19 +62,11 @@ module _ (tables : List ℕ) (i n : ℕ) where
   masks-none h = let e : n - i ≡ 0 = omega arith in rw e
 
   module _ (c : Class) where
-    pub search-hit : i < n → same_class c (class_at tables i) ≡ true → i ≡ i + number_of (masks tables i n) c
-    search-hit h q =
-        let e : number_of (masks tables i n) c ≡ 0 = ap (λ (l : List Class). number_of l c) (masks-first h) ∙ number-here c (class_at tables i) (masks tables (i + 1) n) q in
-        omega arith
-
     pub search-on : i < n → same_class c (class_at tables i) ≡ false → (i + 1) + number_of (masks tables (i + 1) n) c ≡ i + number_of (masks tables i n) c
     search-on h q =
         let e : number_of (masks tables i n) c ≡ suc (number_of (masks tables (i + 1) n) c) =
         ap (λ (l : List Class). number_of l c) (masks-first h) ∙ number-later c (class_at tables i) (masks tables (i + 1) n) q in
         omega arith
-
-    pub search-end : n ≤ i → i ≤ n → n ≡ i + number_of (masks tables i n) c
-    search-end h k = let e : number_of (masks tables i n) c ≡ 0 = ap (λ (l : List Class). number_of l c) (masks-none h) in omega arith
 
   -- the number that a search from i on answers tells whether one of the masks is the class
   pub search-among : (c : Class) → i + number_of (masks tables i n) c < n → among (masks tables i n) c ≡ true

@@ -8,6 +8,8 @@
 ghost use Rattle.std.specs.Prelude.{◌≡◌, true, ◌%◌, ◌^◌, ◌<◌, ◌≤◌};
 ghost use Rattle.mask_store.specs.Masks.{allowed, refused_with, add, used_in, render};
 
+use refusals::Refusal;
+
 pub mod tables;
 
 // The number of tables.
@@ -21,24 +23,18 @@ pub const SIZE: usize = TABLES * TABLE_SIZE;
 // The most masks.
 pub const MASKS: usize = TABLES * TABLE_MASKS;
 
-// The tables stand one after another: entry 256 t + b is that of byte b in table t. Bits of masks from `count` on mean nothing.
-#[derive(Clone, Copy)]
+// The tables stand one after another: entry 256 t + b is that of byte b in table t. Bits of masks from `count` on mean nothing. An array and a
+// count, since nothing is allocated, and so C holds it.
+#[derive(Clone, Copy, PartialEq, Eq)]
 pub struct MaskStore {
     pub tables: [u8; SIZE],
     pub count: usize,
 }
 
-// The number of a class, or 15.
-#[derive(Clone, Copy)]
-pub enum AddAnswer {
-    Number(usize),
-    Refused(u8),
-}
-
-// The answer to a class that was to be added, and the store after it.
+// The answer to a class that was to be added, its number or 15, and the store after it.
 #[derive(Clone, Copy)]
 pub struct Added {
-    pub answer: AddAnswer,
+    pub answer: Result<usize, Refusal>,
     pub store: MaskStore,
 }
 
@@ -49,8 +45,8 @@ fn refused(store: MaskStore) -> Added
     ensures { result ≡ refused_with store }
 {
     Added {
-        answer: AddAnswer::Refused(15),
-        store: store,
+        answer: Err(Refusal::Store),
+        store,
     }
 }
 
@@ -59,20 +55,19 @@ pub fn with_class(store: MaskStore, class: [bool; 256]) -> Added
     requires { allowed store ≡ true }
     ensures { result ≡ add store class }
 {
-    let mut tables = store.tables;
-    let count = store.count;
+    let MaskStore { mut tables, count } = store;
     let number = tables::number_from(&tables, 0, count, &class);
     if number < count {
         Added {
-            answer: AddAnswer::Number(number),
-            store: store,
+            answer: Ok(number),
+            store,
         }
     } else if count < MASKS {
         tables::write_mask(&mut tables, count, &class);
         Added {
-            answer: AddAnswer::Number(count),
+            answer: Ok(count),
             store: MaskStore {
-                tables: tables,
+                tables,
                 count: count + 1,
             },
         }
@@ -85,17 +80,16 @@ pub fn with_class(store: MaskStore, class: [bool; 256]) -> Added
 pub fn add_by_value(store: MaskStore, class: [bool; 256]) -> Added
     ensures { result ≡ add store class }
 {
-    let tables = store.tables;
-    let count = store.count;
-    if !tables::allowed(&tables, count) {
+    if !tables::allowed(&store.tables, store.count) {
         return refused(store);
     }
     with_class(store, class)
 }
 
 // The same on a store that is lent, and grows in the call.
-pub fn add_test_to_lut(store: &mut MaskStore, class: [bool; 256]) -> AddAnswer
-    ensures { (result ≡ (add store.old class).answer) × (store.new ≡ (add store.old class).store) }
+pub fn add_test_to_lut(store: &mut MaskStore, class: [bool; 256]) -> Result<usize, Refusal>
+    ensures answer { result ≡ (add store.old class).answer }
+    ensures after { store.new ≡ (add store.old class).store }
 {
     let added = add_by_value(*store, class);
     *store = added.store;
@@ -109,7 +103,7 @@ pub fn add_by_loan(store: MaskStore, class: [bool; 256]) -> Added
     let mut lent = store;
     let answer = add_test_to_lut(&mut lent, class);
     Added {
-        answer: answer,
+        answer,
         store: lent,
     }
 }
@@ -118,43 +112,38 @@ pub fn add_by_loan(store: MaskStore, class: [bool; 256]) -> Added
 
 // The n lowest bits of the word.
 fn low_bits(word: u8, n: usize) -> u8
-    requires { n ≤ 8 }
+    requires { n ≤ TABLE_MASKS }
     ensures { result ≡ word % 2 ^ n }
 {
-    if n < 8 { word & ((1u8 << n) - 1) } else { word }
+    if n < TABLE_MASKS {
+        word & ((1u8 << n) - 1)
+    } else {
+        word
+    }
 }
 
 // How many masks of table t are held.
 fn used_in(count: usize, t: usize) -> usize
-    requires { t < 8 }
+    requires { t < TABLES }
     ensures { result ≡ used_in count t }
 {
-    if TABLE_MASKS * t + TABLE_MASKS <= count {
-        TABLE_MASKS
-    } else if TABLE_MASKS * t < count {
-        count - TABLE_MASKS * t
-    } else {
-        0
-    }
+    count.saturating_sub(TABLE_MASKS * t).min(TABLE_MASKS)
 }
 
-// The eight tables, with 0 for each bit of a mask that is not held; or 15, and zeros.
-pub fn render_luts(store: MaskStore, refusal: &mut u8) -> [[u8; TABLE_SIZE]; TABLES]
-    ensures { (result ≡ (render store).tables) × (refusal.new ≡ (render store).refusal) }
+// The eight tables, with 0 for each bit of a mask that is not held; or 15.
+pub fn render_luts(store: MaskStore) -> Result<[[u8; TABLE_SIZE]; TABLES], Refusal>
+    ensures { result ≡ render store }
 {
-    let mut luts = [[0u8; TABLE_SIZE]; TABLES];
-    let tables = store.tables;
-    let count = store.count;
+    let MaskStore { tables, count } = store;
     if !tables::allowed(&tables, count) {
-        *refusal = 15;
-        return luts;
+        return Err(Refusal::Store);
     }
-    *refusal = 0;
+    let mut luts = [[0u8; TABLE_SIZE]; TABLES];
     for t in 0..TABLES {
         let used = used_in(count, t);
         for b in 0..TABLE_SIZE {
             luts[t][b] = low_bits(tables[TABLE_SIZE * t + b], used);
         }
     }
-    luts
+    Ok(luts)
 }

@@ -1,28 +1,26 @@
 // Two states, compared.
-ghost use Rattle.std.specs.Prelude.{◌≡◌, true, ◌<◌, get_or};
-ghost use Rattle.graph_rules.specs.Graph.{graph_fits, graph_from, state_of, same};
+ghost use Rattle.std.specs.Prelude.{◌≡◌, ◌<◌, get_or};
+ghost use Rattle.graph_rules.specs.Graph.{graph_from, state_of, same};
 
 use words::STEPS;
-use words::graph::{accept, early, target};
+use words::graph::Graph;
 
-// Whether two states have the same marks, 256 targets and end target.
-pub(crate) fn equal(graph: &[u16], e: usize, s: usize) -> bool
-    requires graph_value { graph_fits graph.now ≡ true }
-    requires e_bound { (e < get_or graph.now 0 0) × (s < get_or graph.now 0 0) }
-    ensures { result ≡ same (state_of (graph_from graph.now) e) (state_of (graph_from graph.now) s) }
+// Whether two states have the same marks, 256 targets and end target. They are rows of words, compared word by word and no further than to the first that
+// differs: no values that a derive could compare.
+pub(crate) fn equal(graph: Graph<'_>, e: usize, s: usize) -> bool
+    requires { (e < get_or graph.words.now 0 0) × (s < get_or graph.words.now 0 0) }
+    ensures { result ≡ same (state_of (graph_from graph.entry.words.now) e) (state_of (graph_from graph.entry.words.now) s) }
 {
-    if accept(graph, e) != accept(graph, s) {
+    if graph.accept(e) != graph.accept(s) {
         return false;
     }
-    if early(graph, e) != early(graph, s) {
+    if graph.early(e) != graph.early(s) {
         return false;
     }
-    let mut c: usize = 0;
-    while c < STEPS {
-        if target(graph, e, c) != target(graph, s, c) {
+    for c in 0..STEPS {
+        if graph.target(e, c) != graph.target(s, c) {
             return false;
         }
-        c += 1;
     }
     true
 }

@@ -8,25 +8,22 @@ ghost use Rattle.graph_rules.specs.Build.{merge_round, merges_none, merged};
 ghost use Rattle.merge.specs.Equals.{Lowest};
 
 use crate::equal::equal;
-use relabel::{NO_NAME, relabel};
+use relabel::relabel;
 use words::STATES;
-use words::graph::states;
+use words::graph::Graph;
 
 mod equal;
 
 // The lowest state that equals state s. `stay` tells which states before s equal none before them.
-fn first_equal(graph: &[u16], stay: &[bool; STATES], s: usize) -> usize
-    requires graph_value { graph_fits graph.now ≡ true }
-    requires s_bound { s < get_or graph.now 0 0 }
-    requires by_index { (e : ℕ) → e < s → get_or stay.now e false ≡ false → (f : ℕ) × (f < e) × (state_of (graph_from graph.now) f ≡ state_of (graph_from graph.now) e) }
-    ensures { Lowest (graph_from graph.now) s result }
+fn first_equal(graph: Graph<'_>, stay: &[bool; STATES], s: usize) -> usize
+    requires s_bound { s < get_or graph.words.now 0 0 }
+    requires by_index { (e : ℕ) → e < s → get_or stay.now e false ≡ false → (f : ℕ) × (f < e) × (state_of (graph_from graph.words.now) f ≡ state_of (graph_from graph.words.now) e) }
+    ensures { Lowest (graph_from graph.entry.words.now) s result }
 {
-    let mut e: usize = 0;
-    while e < s {
+    for e in 0..s {
         if stay[e] && equal(graph, e, s) {
             return e;
         }
-        e += 1;
     }
     s
 }
@@ -38,18 +35,17 @@ fn merge_round(graph: &mut [u16]) -> bool
     ensures graph_after { graph.new ≡ cond (merges_none (graph_from graph.old)) graph.old (rewritten merge_round graph.old) }
     ensures graph_after_2 { graph_fits graph.new ≡ true }
 {
-    let n = states(graph);
-    let mut names = [NO_NAME; STATES];
+    let now = Graph { words: graph };
+    let n = now.states();
+    // Two arrays, no heap: a state that is merged has a name and does not stay, so neither tells the other.
+    let mut names: [Option<u16>; STATES] = [None; STATES];
     let mut stay = [false; STATES];
     let mut k: usize = 0;
-    let mut next: usize = 0;
-    while next < n {
-        let s = next;
-        next += 1;
-        let e = first_equal(graph, &stay, s);
+    for s in 0..n {
+        let e = first_equal(now, &stay, s);
         if e == s {
             stay[s] = true;
-            names[s] = k as u16;
+            names[s] = Some(k as u16);
             k += 1;
         } else {
             names[s] = names[e];
@@ -68,6 +64,7 @@ pub fn merge(graph: &mut [u16])
     ensures graph_after { graph.new ≡ rewritten (λ g. (merged g).graph) graph.old }
     ensures graph_after_2 { graph_fits graph.new ≡ true }
 {
+    // Rule 8's rounds (docs/DECISIONS.md, 36): a loop that ends by break, as the round that merges nothing does.
     loop {
         if !merge_round(graph) {
             break;

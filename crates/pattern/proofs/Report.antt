@@ -3,10 +3,10 @@ use mathlib.Core.Path.{◌≡◌, refl}
 use mathlib.Core.Bool.{Bool, true, false, cond, not}
 use mathlib.Core.List.{List, [], ◌∷◌}
 use Prim.Native.Nat.{ℕ}
+use Rattle.std.specs.Prelude.{Ok, Err}
+use Rattle.refusals.specs.declared.Refusal.TheVariants.{TreeForm, PriorityLimit}
 use Rattle.lists.specs.Report.{on, lowest, answering}
 use Rattle.trees.specs.Tree.{root, tree_fits}
-use Rattle.pattern.specs.declared.PriorityAnswer.TheVariants as priority-answer
-use Rattle.pattern.specs.declared.GreedyAnswer.TheVariants as greedy-answer
 use Rattle.pattern.specs.Priority.{priority, greedy_all, too_high, priority_of, greedy_of, priority_report, greedy_report}
 
 module _ (w bytes : List ℕ) where
@@ -19,8 +19,8 @@ module _ (w bytes : List ℕ) where
 
       go : (fits high : Bool)
           → priority_report (elim fits [
-            | false ↦ priority-answer.Refused 10
-            | true ↦ elim high [ true ↦ priority-answer.Refused 11 | false ↦ priority-answer.Value v ]
+            | false ↦ Err TreeForm
+            | true ↦ elim high [ true ↦ Err PriorityLimit | false ↦ Ok v ]
           ])
           ≡ answering (lowest (on (not fits) 10 ∷ on high 11 ∷ [])) (v ∷ [])
       go false high = refl
@@ -31,6 +31,6 @@ module _ (w bytes : List ℕ) where
   unfolding greedy_of
   greedy-report = go (tree_fits w bytes) (greedy_all (root w bytes))
     where
-      go : (fits found : Bool) → greedy_report (elim fits [ false ↦ greedy-answer.Refused 10 | true ↦ greedy-answer.Found found ]) ≡ answering (on (not fits) 10) (cond found 1 0 ∷ [])
+      go : (fits found : Bool) → greedy_report (elim fits [ false ↦ Err TreeForm | true ↦ Ok found ]) ≡ answering (on (not fits) 10) (cond found 1 0 ∷ [])
       go false found = refl
       go true found = refl

@@ -1,16 +1,25 @@
 -- What the code answers of one record in the greedy test. Definitions only.
-use Rattle.std.specs.Prelude.{Bool, false, ◌&&◌, List, [], ◌∷◌, ℕ, eqb, get_or}
-use Rattle.trees.specs.Tree.{flag}
-use Rattle.trees.specs.declared.tree.Record.{Record}
+use Rattle.std.specs.Prelude.{Bool, false, ◌&&◌, List, get_or, Option, Some, None}
+use Rattle.trees.specs.declared.nodes.Node.{Node}
+use Rattle.trees.specs.declared.nodes.Shape.{Shape}
+use Rattle.trees.specs.declared.nodes.Shape.TheVariants as shape
+use Rattle.pattern.specs.declared.greedy.Note.{Note}
 
--- it is one of the six dots
-abbrev pub dot_of : Record → Bool
-dot_of r = eqb r.kind 2 && flag 1 r.flags
+abbrev pub no_note : Note
+no_note = record { dot = false; found = false }
 
--- what its tree may tell, in the order of the kinds, if its first child is a dot (`dot`), and if its chain of children has what is looked for
--- (`inside`)
-abbrev pub parts : ℕ → Bool → Bool → List Bool
-parts flags dot inside = false ∷ false ∷ false ∷ false ∷ (dot && flag 2 flags && flag 1 flags) ∷ inside ∷ inside ∷ inside ∷ []
+-- whether a chain has what is looked for, by the note of its first record
+abbrev pub chain_has : Option Node → List Note → Bool
+chain_has None notes = false
+chain_has (Some node) notes = (get_or notes node.number no_note).found
 
-unfoldable pub greedy_part : Record → Bool → Bool → Bool
-greedy_part r dot inside = get_or (parts r.flags dot inside) r.kind false
+-- and whether a record's tree has, by the notes of those that it names
+abbrev pub greedy_part : Shape → List Note → Bool
+greedy_part shape.Empty notes = false
+greedy_part (shape.Literal text) notes = false
+greedy_part (shape.Class dot) notes = false
+greedy_part shape.Look notes = false
+greedy_part (shape.Repetition min greedy unbounded node) notes = (get_or notes node.number no_note).dot && unbounded && greedy
+greedy_part (shape.Capture node) notes = (get_or notes node.number no_note).found
+greedy_part (shape.Concat first) notes = chain_has first notes
+greedy_part (shape.Alternation first) notes = chain_has first notes

@@ -1,84 +1,74 @@
-// The value of a record and of a chain of records: `complexity` of the Rust, with chains in the place of its iterators.
+// The value of a record and of a chain of records: `complexity` of the Rust, with chains in the place of its iterators. None: it, or one in its
+// tree, is above 4,294,967,295.
 //
 // The three functions call each other, and record numbers fall: a record's first child and the next of its chain are below it. A record is
 // worked out once, by the one that names it.
-ghost use Rattle.std.specs.Prelude.{◌≡◌, ◌+◌, ◌<◌, ◌≤◌, length, take, drop};
-ghost use Rattle.lists.specs.Lists.{tab};
-ghost use Rattle.utf8.specs.Utf8.{width_of, code_points};
-ghost use Rattle.trees.specs.Tree.{tree_at, chain_at};
+ghost use Rattle.std.specs.Prelude.{◌≡◌};
+ghost use Rattle.utf8.specs.Utf8.{code_points};
+ghost use Rattle.trees.specs.Nodes.{tree_of_node, chain_of_first};
 ghost use Rattle.pattern.specs.Priority.{literal_value};
 ghost use Rattle.pattern.specs.Priced.{priced, priced_sum, priced_least, capped};
-ghost use Rattle.trees.specs.Held.{Within};
 
-use crate::values::{Priced, added, cap, least_of, multiplied};
-use trees::tree::{ALTERNATION, CAPTURE, CLASS, CONCAT, LITERAL, REPETITION, record_at};
-use utf8::{Points, code_points};
+use trees::nodes::{Node, Shape};
+use utf8::code_points;
+use utf8::widths::Widths;
 
-// The value of the literal of b bytes from a.
-fn literal_value(bytes: &[u8], widths: &[u8; 256], a: u32, b: u32) -> Priced
-    requires widths_value { widths.now ≡ tab 0 256 width_of }
-    requires b_in_bounds { a + b ≤ length bytes.now }
-    ensures { result ≡ capped (literal_value (take b (drop a bytes.now)) (code_points (take b (drop a bytes.now)))) }
+// The value of a literal.
+fn literal_value(text: &[u8], widths: &Widths) -> Option<u32>
+    ensures { result ≡ capped (literal_value text.now (code_points text.now)) }
 {
-    let from = a as usize;
-    let to = from + (b as usize);
-    match code_points(&bytes[from..to], widths) {
-        Points::Count(n) => cap(2 * (n as u64)),
-        Points::IllFormed => cap(2 * (b as u64)),
+    let points = code_points(text, widths).unwrap_or(text.len());
+    u32::try_from(points).ok()?.checked_mul(2)
+}
+
+// The value of a record. What has no value below a repetition has none, whatever its min.
+#[cycle(chain_least_chain_sum_record_value)]
+pub(crate) fn record_value(node: Node<'_>, widths: &Widths) -> Option<u32>
+    ensures { result ≡ priced (tree_of_node node.entry) }
+{
+    match node.shape() {
+        Shape::Empty | Shape::Look => Some(0),
+        Shape::Literal(text) => literal_value(text, widths),
+        Shape::Class(_) => Some(2),
+        Shape::Repetition { min, part, .. } => {
+            let value = record_value(part, widths)?;
+            min.checked_mul(value)
+        }
+        Shape::Capture(part) => record_value(part, widths),
+        Shape::Concat(first) => chain_sum(first, widths),
+        Shape::Alternation(first) => chain_least(first, widths),
     }
 }
 
-// The value of record i.
+// The sum over a chain, which is walked by its links: an iterator would be a struct and an impl for two loops.
 #[cycle(chain_least_chain_sum_record_value)]
-pub(crate) fn record_value(tree: &[u32], bytes: &[u8], widths: &[u8; 256], i: usize) -> Priced
-    requires within { Within tree.now bytes.now widths.now i }
-    requires i_nonzero { 0 < i }
-    ensures { result ≡ priced (tree_at tree.now bytes.now i) }
+fn chain_sum(first: Option<Node<'_>>, widths: &Widths) -> Option<u32>
+    ensures { result ≡ priced_sum (chain_of_first first.entry) }
 {
-    let r = record_at(tree, i);
-    let kind = r.kind;
-    match kind {
-        LITERAL => literal_value(bytes, widths, r.a, r.b),
-        CLASS => Priced::Value(2),
-        REPETITION => multiplied(r.a, record_value(tree, bytes, widths, r.child)),
-        CAPTURE => record_value(tree, bytes, widths, r.child),
-        CONCAT => chain_sum(tree, bytes, widths, r.child),
-        ALTERNATION => chain_least(tree, bytes, widths, r.child),
-        _ => Priced::Value(0),
+    let mut total = 0u32;
+    let mut next = first;
+    while let Some(node) = next {
+        let value = record_value(node, widths)?;
+        total = total.checked_add(value)?;
+        next = node.next();
     }
+    Some(total)
 }
 
-// The sum over the chain that begins at record first; 0: there is none.
+// The least in a chain, 0 if it has no part.
 #[cycle(chain_least_chain_sum_record_value)]
-fn chain_sum(tree: &[u32], bytes: &[u8], widths: &[u8; 256], first: usize) -> Priced
-    requires { Within tree.now bytes.now widths.now first }
-    ensures { result ≡ priced_sum (chain_at tree.now bytes.now first) }
+fn chain_least(first: Option<Node<'_>>, widths: &Widths) -> Option<u32>
+    ensures { result ≡ priced_least (chain_of_first first.entry) }
 {
-    let mut total = Priced::Value(0);
-    let mut i = first;
-    while i != 0 {
-        let value = record_value(tree, bytes, widths, i);
-        total = added(total, value);
-        i = record_at(tree, i).next;
+    let Some(head) = first else {
+        return Some(0);
+    };
+    let mut least = record_value(head, widths)?;
+    let mut next = head.next();
+    while let Some(node) = next {
+        let value = record_value(node, widths)?;
+        least = least.min(value);
+        next = node.next();
     }
-    total
-}
-
-// The least in the chain that begins at record first; 0: there is none.
-#[cycle(chain_least_chain_sum_record_value)]
-fn chain_least(tree: &[u32], bytes: &[u8], widths: &[u8; 256], first: usize) -> Priced
-    requires { Within tree.now bytes.now widths.now first }
-    ensures { result ≡ priced_least (chain_at tree.now bytes.now first) }
-{
-    if first == 0 {
-        return Priced::Value(0);
-    }
-    let mut least = record_value(tree, bytes, widths, first);
-    let mut i = record_at(tree, first).next;
-    while i != 0 {
-        let value = record_value(tree, bytes, widths, i);
-        least = least_of(least, value);
-        i = record_at(tree, i).next;
-    }
-    least
+    Some(least)
 }

@@ -1,13 +1,6 @@
 -- The targets of a state, met in ascending order: how many, and the two lowest. Assumes nothing.
-use mathlib.Core.Path.{◌≡◌, refl, sym, ap, subst, ◌∙◌}
-use mathlib.Core.Bool.{Bool, true, false}
-use mathlib.Core.List.{List, [], ◌∷◌, ◌++◌}
-use mathlib.Core.Logic.{◌⊎◌, inl, inr}
-use Prim.Native.Nat.{ℕ, ◌+◌, ◌≤◌, ◌<◌}
-use native.Mathlib.Omega.{arith}
-use borrow.Author.Tests.{ltb-true, ltb-false, lt-ltb}
-use lib.Dec.{eqb, ltb}
-use lib.ListN.{length, get_or, length-append, get_or-eq_default}
+use Rattle.std.proofs.Common.{◌≡◌, refl, sym, ap, subst, ◌∙◌, Bool, true, false, cond, List, [], ◌∷◌, ◌++◌, ◌⊎◌, inl, inr, ℕ, ◌+◌, ◌≤◌, ◌<◌, arith, ltb-true, lt-ltb, le-ltb, eqb, ltb, length, get_or, set, length-append, Option, Some, None, IfSome, slice_get}
+use Rattle.std.proofs.lemmas.Option.{slice_get_past, slice_get-get_or}
 use Rattle.lists.specs.Lists.{below, any_l, all_l, those}
 use Rattle.lists.proofs.Bools.{lt-or-le}
 use Rattle.lists.proofs.Elements.{length-tab, get_or-tab0, all-at, all-intro}
@@ -17,101 +10,113 @@ use Rattle.graph_rules.proofs.Flat.{from-length}
 use Rattle.edges.specs.Edges.{leads_to, targets}
 use Rattle.edges.proofs.ByTarget.{target-leads}
 use Rattle.plan_rules.specs.Plan.{base, by_table}
+use Rattle.plan_rows.specs.declared.fork.Edges.TheVariants.{ByTable, Each}
 use Rattle.plan_rows.specs.declared.fork.Fork.{Fork}
 use Rattle.plan_rows.specs.Fork.{fork_in, fork_of}
 
--- ---- a list's length and its first two elements
+-- ---- a list's first two elements
 
-pub record Two (l : List ℕ) (count low high : ℕ) : Type 0 where
-  pub count-is : count ≡ length l
-  pub low-is : low ≡ get_or l 0 0
-  pub high_is : high ≡ get_or l 1 0
+abbrev pub lowest_of : List ℕ → List (Option ℕ)
+lowest_of l = slice_get l 0 ∷ slice_get l 1 ∷ []
 
 -- one element more at the end
-module _ {count low high : ℕ} (u : ℕ) where
-  two-first : (l : List ℕ) → Two l count low high → count + 1 ≡ 1 → Two (l ++ (u ∷ [])) (count + 1) u high
-  two-first [] t e = record { count-is = e; low-is = refl; high_is = t.high_is }
-  two-first (x ∷ l) t e = absurd (let c = t.count-is in omega arith)
+lowest-write : (u : ℕ) (l : List ℕ) → length l < 2 → set (lowest_of l) (length l) (Some u) ≡ lowest_of (l ++ (u ∷ []))
+lowest-write u [] h = refl
+lowest-write u (x ∷ []) h = refl
+lowest-write u (x ∷ y ∷ l) h = absurd (omega arith)
 
-  two-second : (l : List ℕ) → Two l count low high → count + 1 ≡ 2 → Two (l ++ (u ∷ [])) (count + 1) low u
-  two-second [] t e = absurd (let c = t.count-is in omega arith)
-  two-second (x ∷ []) t e = record { count-is = e; low-is = t.low-is; high_is = refl }
-  two-second (x ∷ y ∷ l) t e = absurd (let c = t.count-is in omega arith)
-
-  two-later : (l : List ℕ) → Two l count low high → 2 ≤ count → Two (l ++ (u ∷ [])) (count + 1) low high
-  two-later [] t h = absurd (let c = t.count-is in omega arith)
-  two-later (x ∷ []) t h = absurd (let c = t.count-is in omega arith)
-  two-later (x ∷ y ∷ l) t h =
-      record {
-        count-is = let c = t.count-is in let e = length-append l (u ∷ []) in omega arith;
-        low-is = t.low-is;
-        high_is = t.high_is;
-      }
+lowest-kept : (u : ℕ) (l : List ℕ) → 2 ≤ length l → lowest_of l ≡ lowest_of (l ++ (u ∷ []))
+lowest-kept u [] h = absurd (omega arith)
+lowest-kept u (x ∷ []) h = absurd (omega arith)
+lowest-kept u (x ∷ y ∷ l) h = refl
 
 -- ---- the numbers below u that pass
 
-pub record Forking (p : ℕ → Bool) (count low high u : ℕ) : Type 0 where
+pub record Forking (p : ℕ → Bool) (count : ℕ) (lowest : List (Option ℕ)) (u : ℕ) : Type 0 where
   pub few : count ≤ u
-  pub two : Two (those p (below u)) count low high
+  pub count-is : count ≡ length (those p (below u))
+  pub lowest-are : lowest ≡ lowest_of (those p (below u))
 
-pub forking-none : (p : ℕ → Bool) → Forking p 0 0 0 0
-forking-none p = record { few = omega arith; two = record { count-is = refl; low-is = refl; high_is = refl } }
+pub forking-none : (p : ℕ → Bool) → Forking p 0 (None ∷ None ∷ []) 0
+forking-none p = record { few = omega arith; count-is = refl; lowest-are = refl }
 
-module _ {p : ℕ → Bool} {count low high u : ℕ} (f : Forking p count low high u) where
+module _ {p : ℕ → Bool} {count : ℕ} {lowest : List (Option ℕ)} {u : ℕ} (f : Forking p count lowest u) where
   module _ (e : p u ≡ true) where
-    met : {low' high' : ℕ} → Two (those p (below u) ++ (u ∷ [])) (count + 1) low' high' → Forking p (count + 1) low' high' (u + 1)
-    met {low'} {high'} t =
-        record { few = let h = f.few in omega arith; two = subst (λ (l : List ℕ). Two l (count + 1) low' high') (sym (those-more p u e)) t }
+    met : {after : List (Option ℕ)} → after ≡ lowest_of (those p (below u) ++ (u ∷ [])) → Forking p (count + 1) after (u + 1)
+    met a =
+        let c = f.count-is in
+        let h = f.few in
+        record {
+          few = omega arith;
+          count-is = (let k = length-append (those p (below u)) (u ∷ []) in let z : count + 1 ≡ length (those p (below u) ++ (u ∷ [])) = omega arith in z) ∙ ap length (sym (those-more p u e));
+          lowest-are = a ∙ ap lowest_of (sym (those-more p u e));
+        }
 
-    pub forking-first : count + 1 ≡ 1 → Forking p (count + 1) u high (u + 1)
-    forking-first h = met (two-first u (those p (below u)) f.two h)
+    pub forking-first : count < 2 → Forking p (count + 1) (set lowest count (Some u)) (u + 1)
+    forking-first h =
+        let l = those p (below u) in
+        let c = f.count-is in
+        met ((λ i. set (f.lowest-are i) (c i) (Some u)) ∙ lowest-write u l (omega arith))
 
-    pub forking-second : count + 1 ≡ 2 → Forking p (count + 1) low u (u + 1)
-    forking-second h = met (two-second u (those p (below u)) f.two h)
+    pub forking-later : (count < 2 → ⊥) → Forking p (count + 1) lowest (u + 1)
+    forking-later n = let c = f.count-is in met (f.lowest-are ∙ lowest-kept u (those p (below u)) (omega (arith, n)))
 
-    pub forking-later : (count + 1 ≡ 1 → ⊥) → (count + 1 ≡ 2 → ⊥) → Forking p (count + 1) low high (u + 1)
-    forking-later a b = met (two-later u (those p (below u)) f.two (omega (arith, a, b)))
-
-  pub forking-not : p u ≡ false → Forking p count low high (u + 1)
+  pub forking-not : p u ≡ false → Forking p count lowest (u + 1)
   forking-not e =
-      record { few = let h = f.few in omega arith; two = subst (λ (l : List ℕ). Two l count low high) (sym (those-same p u e)) f.two }
+      record { few = let h = f.few in omega arith; count-is = f.count-is ∙ ap length (sym (those-same p u e)); lowest-are = f.lowest-are ∙ ap lowest_of (sym (those-same p u e)) }
 
 -- ---- the targets of a state
 
 -- each is a state
-edge-below : (n : ℕ) (st : State) (i : ℕ) → i < length (targets n st) → get_or (targets n st) i 0 < n
+pub target_below : (n : ℕ) (st : State) (i : ℕ) → IfSome (slice_get (targets n st) i) (λ u. u < n)
 unfolding targets
-edge-below n st i h =
-    ltb-true _ n (all-at (λ x. ltb x n) (targets n st) i 0 (those-keep (leads_to st) (λ x. ltb x n) (below n) small) h)
+target_below n st i = go (lt-or-le i (length (targets n st)))
   where
     small : all_l (λ x. ltb x n) (below n) ≡ true
     small =
         all-intro (λ x. ltb x n) (below n) 0
         (λ j k. let b : j < n = omega (arith, length-tab 0 n (λ x. x)) in ap (λ (x : ℕ). ltb x n) (get_or-tab0 n (λ x. x) j 0 b) ∙ lt-ltb j n b)
 
--- and so is 0, which stands where there is no such edge
-pub target_below : (n : ℕ) (st : State) (j : ℕ) → 0 < n → get_or (targets n st) j 0 < n
-target_below n st j h = go (lt-or-le j (length (targets n st)))
-  where
-    go : (j < length (targets n st)) ⊎ (length (targets n st) ≤ j) → get_or (targets n st) j 0 < n
-    go (inl l) = edge-below n st j l
-    go (inr l) = rw (get_or-eq_default (targets n st) 0 l) h
+    within : i < length (targets n st) → get_or (targets n st) i 0 < n
+    within h = ltb-true _ n (all-at (λ x. ltb x n) (targets n st) i 0 (those-keep (leads_to st) (λ x. ltb x n) (below n) small) h)
+
+    go : (i < length (targets n st)) ⊎ (length (targets n st) ≤ i) → IfSome (slice_get (targets n st) i) (λ u. u < n)
+    go (inl h) = rw (slice_get-get_or (targets n st) i 0 h) (within h)
+    go (inr h) = rw (slice_get_past (targets n st) i h) tt
 
 -- all of them met
-pub forked : (w : List ℕ) (s u : ℕ) {own : Bool} {count low high : ℕ}
-    → Forking (leads_to (state_of (graph_from w) s)) count low high u → u ≡ get_or w 0 0 → s < get_or w 0 0 → own ≡ leads_to (state_of (graph_from w) s) s
-    → record { count = count; table = ltb 2 count; own = own; low = low; high = high } ≡ fork_of (graph_from w) s
-unfolding fork_of fork_in targets by_table
-forked w s u f e h o =
-    let t = f.two in
-    let st = state_of (graph_from w) s in
-    let n : u ≡ length (graph_from w).states = e ∙ sym (from-length w) in
-    let k : s < length (graph_from w).states = omega (arith, from-length w) in
-    let a = t.count-is ∙ ap (λ (m : ℕ). length (those (leads_to st) (below m))) n in
-    let b = o ∙ sym (target-leads st (length (graph_from w).states) s k) in
-    let c = t.low-is ∙ ap (λ (m : ℕ). get_or (those (leads_to st) (below m)) 0 0) n in
-    let d = t.high_is ∙ ap (λ (m : ℕ). get_or (those (leads_to st) (below m)) 1 0) n in
-    λ i. record { count = a i; table = ltb 2 (a i); own = b i; low = c i; high = d i }
+module _ (w : List ℕ) (s u : ℕ) {own : Bool} {count : ℕ} {lowest : List (Option ℕ)} (f : Forking (leads_to (state_of (graph_from w) s)) count lowest u) (e : u ≡ get_or w 0 0) (h : s < get_or w 0 0) (o : own ≡ leads_to (state_of (graph_from w) s) s) where
+  abbrev st : State
+  st = state_of (graph_from w) s
+
+  abbrev n : ℕ
+  n = length (graph_from w).states
+
+  met-all : u ≡ n
+  met-all = e ∙ sym (from-length w)
+
+  own-is : own ≡ any_l (eqb s) (targets n st)
+  own-is = let k : s < n = omega (arith, from-length w) in o ∙ sym (target-leads st n s k)
+
+  count-all : count ≡ length (targets n st)
+  unfolding targets
+  count-all = f.count-is ∙ ap (λ (m : ℕ). length (those (leads_to st) (below m))) met-all
+
+  lowest-all : lowest ≡ lowest_of (targets n st)
+  unfolding targets
+  lowest-all = f.lowest-are ∙ ap (λ (m : ℕ). lowest_of (those (leads_to st) (below m))) met-all
+
+  pub forked-table : 2 < count → record { own = own; edges = ByTable } ≡ fork_of (graph_from w) s
+  unfolding fork_of fork_in by_table
+  forked-table m =
+      let b : ltb 2 (length (targets n st)) ≡ true = lt-ltb 2 (length (targets n st)) (omega (arith, count-all)) in
+      rw b (λ i. record { own = own-is i; edges = ByTable })
+
+  pub forked-each : (2 < count → ⊥) → record { own = own; edges = Each lowest } ≡ fork_of (graph_from w) s
+  unfolding fork_of fork_in by_table
+  forked-each m =
+      let b : ltb 2 (length (targets n st)) ≡ false = le-ltb 2 (length (targets n st)) (omega (arith, count-all, m)) in
+      rw b (λ i. record { own = own-is i; edges = Each (lowest-all i) })
 
 -- ---- what the fork of a state says
 
@@ -119,33 +124,32 @@ module _ (g : Graph) (s : ℕ) {f : Fork} (is-fork : f ≡ fork_of g s) where
   abbrev ts : List ℕ
   ts = targets (length g.states) (state_of g s)
 
-  pub fork-count : f.count ≡ length ts
-  unfolding fork_of fork_in
-  fork-count = ap (λ (x : Fork). x.count) is-fork
-
-  pub fork-table : f.table ≡ by_table base ts
-  unfolding fork_of fork_in
-  fork-table = ap (λ (x : Fork). x.table) is-fork
-
-  pub few-edges : f.table ≡ false → f.count ≤ 2
-  unfolding by_table
-  few-edges e = omega (arith, fork-count, ltb-false 2 (length ts) (sym fork-table ∙ e))
-
   pub fork-own : f.own ≡ any_l (eqb s) ts
   unfolding fork_of fork_in
   fork-own = ap (λ (x : Fork). x.own) is-fork
 
-  pub fork-low : f.low ≡ get_or ts 0 0
+  fork-edges : f.edges ≡ cond (by_table base ts) ByTable (Each (lowest_of ts))
   unfolding fork_of fork_in
-  fork-low = ap (λ (x : Fork). x.low) is-fork
+  fork-edges = ap (λ (x : Fork). x.edges) is-fork
 
-  pub fork-high : f.high ≡ get_or ts 1 0
-  unfolding fork_of fork_in
-  fork-high = ap (λ (x : Fork). x.high) is-fork
+  pub fork-table : f.edges ≡ ByTable → by_table base ts ≡ true
+  fork-table h = go (by_table base ts) (sym h ∙ fork-edges)
+    where
+      go : (b : Bool) → ByTable ≡ cond b ByTable (Each (lowest_of ts)) → b ≡ true
+      go true e = refl
+      go false e = cc
+
+  pub fork-each : {l : List (Option ℕ)} → f.edges ≡ Each l → (by_table base ts ≡ false) × (l ≡ lowest_of ts)
+  fork-each {l} h = go (by_table base ts) (sym h ∙ fork-edges)
+    where
+      go : (b : Bool) → Each l ≡ cond b ByTable (Each (lowest_of ts)) → (b ≡ false) × (l ≡ lowest_of ts)
+      go true e = cc
+      go false e = (refl, cc)
 
   -- they lead to states
-  pub low_below : 0 < length g.states → f.low < length g.states
-  low_below h = omega (arith, fork-low, target_below (length g.states) (state_of g s) 0 h)
+  module _ {l : List (Option ℕ)} (h : f.edges ≡ Each l) {n : ℕ} (m : length g.states ≡ n) where
+    pub low_below : IfSome (get_or l 0 None) (λ u. u < n)
+    low_below = subst (λ (x : Option ℕ). IfSome x (λ u. u < n)) (ap (λ (x : List (Option ℕ)). get_or x 0 None) (sym ((fork-each h).1))) (subst (λ (k : ℕ). IfSome (slice_get ts 0) (λ u. u < k)) m (target_below (length g.states) (state_of g s) 0))
 
-  pub high-below : 0 < length g.states → f.high < length g.states
-  high-below h = omega (arith, fork-high, target_below (length g.states) (state_of g s) 1 h)
+    pub high-below : IfSome (get_or l 1 None) (λ u. u < n)
+    high-below = subst (λ (x : Option ℕ). IfSome x (λ u. u < n)) (ap (λ (x : List (Option ℕ)). get_or x 1 None) (sym ((fork-each h).1))) (subst (λ (k : ℕ). IfSome (slice_get ts 1) (λ u. u < k)) m (target_below (length g.states) (state_of g s) 1))

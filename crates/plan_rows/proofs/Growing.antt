@@ -1,16 +1,12 @@
 -- A store grown by some classes, then by more: what is taken, and what is refused. Assumes nothing.
-use mathlib.Core.Path.{◌≡◌, refl, sym, ap, ◌∙◌}
-use mathlib.Core.Bool.{true, false, false≢true}
-use mathlib.Core.List.{List, [], ◌∷◌, ◌++◌}
-use Prim.Native.Nat.{ℕ}
-use native.Mathlib.Omega.{arith}
-use borrow.Author.Tests.{le-leb}
-use lib.ListN.{length}
+use Rattle.std.proofs.Common.{◌≡◌, refl, sym, ap, ◌∙◌, true, false, cond, List, [], ◌∷◌, ◌++◌, ℕ, arith, le-leb, length, Result, Ok, Err, IsErrAnd}
+use Rattle.std.proofs.lemmas.Result.{err_from_is_err_and}
 use Rattle.lists.specs.Lists.{all_l}
 use Rattle.lists.proofs.Bools.{Is, is, yes-is, no-is, and_intro}
+use Rattle.refusals.specs.declared.Refusal.{Refusal}
+use Rattle.refusals.specs.declared.Refusal.TheVariants.{Store}
 use Rattle.classes.specs.Classes.{Class}
 use Rattle.mask_store.specs.declared.MaskStore.{MaskStore}
-use Rattle.mask_store.specs.declared.AddAnswer.TheVariants.{Number, Refused}
 use Rattle.mask_store.specs.declared.Added.{Added}
 use Rattle.mask_store.specs.Layout.{store_size, most_masks}
 use Rattle.mask_store.specs.Masks.{held, number_of, grown, allowed, takes, held_with, add, refused_with}
@@ -18,72 +14,67 @@ use Rattle.mask_store.proofs.MaskLaws.{length-held}
 use Rattle.mask_store.proofs.Search.{allowed-count}
 use Rattle.mask_store.proofs.Growth.{whole, grown-none, grown-append}
 use Rattle.mask_store.proofs.Several.{takes-few, takes_front, takes-allowed, takes-rest}
-use Rattle.plan_rows.specs.declared.needs.Grown.{Grown}
 use Rattle.plan_rows.specs.Needs.{grown_by}
+
+-- ---- what a `?` hands on
+
+pub passed-on : (r : Result MaskStore Refusal) {x : Refusal} → IsErrAnd r (λ y. y ≡ x) → r ≡ Err x
+passed-on r h = let p = err_from_is_err_and r h in p.1 ∙ ap (λ y. Err y) p.2
 
 -- ---- taken, or refused
 
-abbrev pub took_all : MaskStore → Grown
-took_all store = record { taken = true; store = store }
-
-abbrev pub unchanged : MaskStore → Grown
-unchanged store = record { taken = false; store = store }
-
 module _ (store : MaskStore) (cs : List Class) where
-  pub by-taken : takes store cs ≡ true → grown_by store cs ≡ took_all (grown store cs)
+  pub by-taken : takes store cs ≡ true → grown_by store cs ≡ Ok (grown store cs)
   unfolding grown_by
   by-taken t = rw t
 
-  by-refused : takes store cs ≡ false → grown_by store cs ≡ unchanged store
+  pub by-refused : takes store cs ≡ false → grown_by store cs ≡ Err Store
   unfolding grown_by
   by-refused t = rw t
 
   -- what a growth tells
-  module _ {r : Grown} (e : r ≡ grown_by store cs) where
-    tells : r.taken ≡ takes store cs
-    unfolding grown_by
-    tells = ap (λ (x : Grown). x.taken) e
+  pub was-taken : {m : MaskStore} → grown_by store cs ≡ Ok m → takes store cs ≡ true
+  was-taken {m} e = go (is (takes store cs))
+    where
+      go : Is (takes store cs) → takes store cs ≡ true
+      go (yes-is t) = t
+      go (no-is t) = cc (by-refused t)
 
-    pub was-taken : r.taken ≡ true → takes store cs ≡ true
-    was-taken t = sym tells ∙ t
+  pub store-grown : {m : MaskStore} → grown_by store cs ≡ Ok m → m ≡ grown store cs
+  store-grown e = cc (by-taken (was-taken e))
 
-    pub was-refused : r.taken ≡ false → takes store cs ≡ false
-    was-refused t = sym tells ∙ t
-
-    pub store-grown : r.taken ≡ true → r.store ≡ grown store cs
-    store-grown t = ap (λ (x : Grown). x.store) (e ∙ by-taken (was-taken t))
+  pub was-refused : {x : Refusal} → grown_by store cs ≡ Err x → takes store cs ≡ false
+  was-refused {x} e = go (is (takes store cs))
+    where
+      go : Is (takes store cs) → takes store cs ≡ false
+      go (yes-is t) = cc (by-taken t)
+      go (no-is t) = t
 
 -- no classes
-pub takes_none : (store : MaskStore) → allowed store ≡ true → takes store [] ≡ true
+takes_none : (store : MaskStore) → allowed store ≡ true → takes store [] ≡ true
 unfolding takes held_with
 takes_none store a = and_intro (allowed store) _ a (le-leb (length (held store)) most_masks (omega (arith, length-held store, allowed-count store a)))
 
-pub grown-nothing : (store : MaskStore) → grown store [] ≡ store
-grown-nothing store = grown-none store [] refl
-
-pub by-none : (store : MaskStore) → allowed store ≡ true → took_all store ≡ grown_by store []
-by-none store a = (λ i. record { taken = true; store = sym (grown-nothing store) i }) ∙ sym (by-taken store [] (takes_none store a))
+pub by-none : (store : MaskStore) → allowed store ≡ true → Ok store ≡ grown_by store []
+by-none store a = ap (λ (m : MaskStore). Ok m) (sym (grown-none store [] refl)) ∙ sym (by-taken store [] (takes_none store a))
 
 -- a store that is not allowed
-pub by-not : (store : MaskStore) (cs : List Class) → allowed store ≡ false → unchanged store ≡ grown_by store cs
+pub by-not : (store : MaskStore) (cs : List Class) → allowed store ≡ false → Err Store ≡ grown_by store cs
 unfolding takes
 by-not store cs a = sym (by-refused store cs (rw a))
 
 -- what is refused is refused with more
-stops : (store : MaskStore) (a b : List Class) → takes store a ≡ false → unchanged store ≡ grown_by store (a ++ b)
-stops store a b t = go (is (takes store (a ++ b)))
+pub grown-stops : (store : MaskStore) (a b : List Class) {x : Refusal} → grown_by store a ≡ Err x → Err x ≡ grown_by store (a ++ b)
+grown-stops store a b {x} e = go (is (takes store (a ++ b)))
   where
-    go : Is (takes store (a ++ b)) → unchanged store ≡ grown_by store (a ++ b)
-    go (yes-is q) = absurd (false≢true (sym t ∙ takes_front store a b q))
-    go (no-is q) = sym (by-refused store (a ++ b) q)
-
-pub front-refused : (store : MaskStore) (a b : List Class) {r : Grown} → r ≡ grown_by store a → r.taken ≡ false → r ≡ grown_by store (a ++ b)
-front-refused store a b e t = let q = was-refused store a e t in e ∙ by-refused store a q ∙ stops store a b q
+    go : Is (takes store (a ++ b)) → Err x ≡ grown_by store (a ++ b)
+    go (yes-is q) = cc (takes_front store a b q, was-refused store a e)
+    go (no-is q) = cc (by-refused store a (was-refused store a e), by-refused store (a ++ b) q)
 
 -- ---- one class, as the store's own call adds it
 
 module _ (store : MaskStore) (c : Class) where
-  add-taken : takes store (c ∷ []) ≡ true → add store c ≡ record { answer = Number (number_of (held store) c); store = grown store (c ∷ []) }
+  add-taken : takes store (c ∷ []) ≡ true → add store c ≡ record { answer = Ok (number_of (held store) c); store = grown store (c ∷ []) }
   unfolding add
   add-taken t = rw t
 
@@ -92,39 +83,33 @@ module _ (store : MaskStore) (c : Class) where
   add-refused t = rw t
 
   module _ {r : Added} (e : r ≡ add store c) where
-    pub by_number : {i : ℕ} → r.answer ≡ Number i → took_all r.store ≡ grown_by store (c ∷ [])
+    pub by_number : {i : ℕ} → r.answer ≡ Ok i → Ok r.store ≡ grown_by store (c ∷ [])
     by_number {i} n = go (is (takes store (c ∷ [])))
       where
-        go : Is (takes store (c ∷ [])) → took_all r.store ≡ grown_by store (c ∷ [])
-        go (yes-is t) =
-            let q : r.store ≡ grown store (c ∷ []) = ap (λ (x : Added). x.store) (e ∙ add-taken t) in
-            (λ i. record { taken = true; store = q i }) ∙ sym (by-taken store (c ∷ []) t)
-        go (no-is t) = let z : ◌≡◌ {A = ℕ} 0 1 = cc (add-refused t) in absurd (omega arith)
+        go : Is (takes store (c ∷ [])) → Ok r.store ≡ grown_by store (c ∷ [])
+        go (yes-is t) = ap (λ (x : Added). Ok x.store) (e ∙ add-taken t) ∙ sym (by-taken store (c ∷ []) t)
+        go (no-is t) = cc (add-refused t)
 
-    pub by-refusal : {i : ℕ} → r.answer ≡ Refused i → unchanged store ≡ grown_by store (c ∷ [])
-    by-refusal {i} n = go (is (takes store (c ∷ [])))
+    pub by-refusal : {x : Refusal} → r.answer ≡ Err x → Err x ≡ grown_by store (c ∷ [])
+    by-refusal {x} n = go (is (takes store (c ∷ [])))
       where
-        go : Is (takes store (c ∷ [])) → unchanged store ≡ grown_by store (c ∷ [])
-        go (yes-is t) = let z : ◌≡◌ {A = ℕ} 0 1 = cc (add-taken t) in absurd (omega arith)
-        go (no-is t) = sym (by-refused store (c ∷ []) t)
+        go : Is (takes store (c ∷ [])) → Err x ≡ grown_by store (c ∷ [])
+        go (yes-is t) = cc (add-taken t)
+        go (no-is t) = cc (add-refused t, by-refused store (c ∷ []) t)
 
 -- ---- by more classes, after some
 
-module _ (store : MaskStore) (a : List Class) (size : length store.tables ≡ store_size) (wide : all_l whole a ≡ true) where
+module _ (store : MaskStore) (a : List Class) (size : length store.tables ≡ store_size) (wide : all_l whole a ≡ true) {now : MaskStore} (e : grown_by store a ≡ Ok now) where
   -- a store that has grown is one that is added to without a check
-  pub grown-allows : {r : Grown} → r ≡ grown_by store a → r.taken ≡ true → allowed r.store ≡ true
-  grown-allows e t = ap allowed (store-grown store a e t) ∙ takes-allowed store a size wide (was-taken store a e t)
+  pub grown-allows : allowed now ≡ true
+  grown-allows = ap allowed (store-grown store a e) ∙ takes-allowed store a size wide (was-taken store a e)
 
-  module _ (t : takes store a ≡ true) {now : MaskStore} (e : now ≡ grown store a) (b : List Class) {r : Grown} (q : r ≡ grown_by now b) where
-    both : r.taken ≡ takes store (a ++ b)
-    both = tells now b q ∙ ap (λ (m : MaskStore). takes m b) e ∙ takes-rest store a size wide t b
-
-    pub then-taken : r.taken ≡ true → r ≡ grown_by store (a ++ b)
-    then-taken u =
-        let z : grown now b ≡ grown store (a ++ b) =
-        ap (λ (m : MaskStore). grown m b) e ∙ sym (grown-append store a b size wide (takes-few store a t))
-        in
-        q ∙ by-taken now b (was-taken now b q u) ∙ (λ i. record { taken = true; store = z i }) ∙ sym (by-taken store (a ++ b) (sym both ∙ u))
-
-    pub then-refused : r.taken ≡ false → (c : List Class) → unchanged store ≡ grown_by store ((a ++ b) ++ c)
-    then-refused u c = stops store (a ++ b) c (sym both ∙ u)
+  pub grown-more : (b : List Class) → grown_by now b ≡ grown_by store (a ++ b)
+  unfolding grown_by
+  grown-more b =
+      let t = was-taken store a e in
+      let k : takes now b ≡ takes store (a ++ b) = ap (λ (m : MaskStore). takes m b) (store-grown store a e) ∙ takes-rest store a size wide t b in
+      let z : grown now b ≡ grown store (a ++ b) =
+      ap (λ (m : MaskStore). grown m b) (store-grown store a e) ∙ sym (grown-append store a b size wide (takes-few store a t))
+      in
+      λ i. cond (k i) (Ok (z i)) (Err Store)

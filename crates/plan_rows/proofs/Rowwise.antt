@@ -1,50 +1,33 @@
 -- Rows of a plan, one after another: a buffer that is filled row by row, and a list that is compared with them. Assumes nothing.
 use mathlib.Core.Path.{◌≡◌, sym, ap, transport, ◌∙◌}
 use mathlib.Core.Bool.{true, false, false≢true}
-use mathlib.Core.List.{List, [], ◌∷◌, ◌++◌, flat_map, append_assoc, append-nil}
+use mathlib.Core.List.{List, [], ◌++◌, flat_map, append_assoc, append-nil}
 use Prim.Native.Nat.{ℕ, zero, suc, ◌+◌, ◌*◌, ◌-◌, ◌≤◌, ◌<◌}
-use native.Mathlib.Numerals.{add-one}
 use native.Mathlib.Omega.{arith}
 use lib.Dec.{eqb}
-use lib.ListN.{length, get_or, take, drop, set, length-drop}
-use lib.Seq.{sets, drop_at, take_at, take-add, take-take, take-suc, length-take-le, ext_get_or, get_or-take, get_or-drop}
+use lib.ListN.{length, take, drop}
+use lib.Seq.{sets, sets-eq, drop-drop, drop_at, take_at, take-add, take-take}
 use Rattle.lists.specs.Lists.{below, eq_list}
 use Rattle.lists.proofs.Bools.{Is, is, yes-is, no-is}
-use Rattle.lists.proofs.Buffers.{Filled, filled-run, sets-append}
+use Rattle.lists.proofs.Buffers.{Filled, filled-run}
 use Rattle.lists.proofs.Elements.{eqb-sound, list-sound, length-tab}
 use Rattle.lists.proofs.Members.{flat_map-one}
 use Rattle.lists.proofs.Those.{below_last}
 use Rattle.lists.proofs.Flattened.{length-flat}
+use borrow.Rule.Slice.PartMut.{put_mid}
 use Rattle.plan_rules.specs.Plan.{base, row_size, own_place}
 
 -- ---- one row
 
--- one more of its words is written
-pub run_more : (out : List ℕ) (at : ℕ) (row : List ℕ) (i : ℕ) → i < length row → set (sets out at (take i row)) (at + i) (get_or row i 0) ≡ sets out at (take (i + 1) row)
-run_more out at row i h =
-    let size : length (take i row) ≡ i = length-take-le i row (omega arith) in
-    rw (add-one i, take-suc row i 0 h, sets-append out at (take i row) (get_or row i 0 ∷ []), size)
-
--- it is compared word by word
-module _ (l row : List ℕ) (at : ℕ) (room : at + length row ≤ length l) where
-  abbrev part : List ℕ
-  part = take (length row) (drop at l)
-
-  part_at : (j : ℕ) → j < length row → get_or part j 0 ≡ get_or l (at + j) 0
-  part_at j h = get_or-take (length row) (drop at l) j 0 h ∙ get_or-drop at l j 0
-
-  pub row-differs : (j : ℕ) → j < length row → (get_or l (at + j) 0 ≡ get_or row j 0 → ⊥) → eq_list eqb part row ≡ false
-  row-differs j h n = go (is (eq_list eqb part row))
-    where
-      go : Is (eq_list eqb part row) → eq_list eqb part row ≡ false
-      go (no-is q) = q
-      go (yes-is q) = absurd (n (sym (part_at j h) ∙ ap (λ (r : List ℕ). get_or r j 0) ((list-sound eqb eqb-sound).eq part row q)))
-
-  pub row_same : ((j : ℕ) → j < length row → get_or l (at + j) 0 ≡ get_or row j 0) → eq_list eqb part row ≡ true
-  row_same f =
-      let size : length part ≡ length row = length-take-le (length row) (drop at l) (omega (arith, length-drop at l)) in
-      let same : part ≡ row = ext_get_or 0 part row size (λ j h. part_at j (omega arith) ∙ f j (omega arith)) in
-      ap (eq_list eqb part) (sym same) ∙ (list-sound eqb eqb-sound).self part
+-- its words are copied to their place
+pub row-put : (l row : List ℕ) (s : ℕ) {part : List ℕ} → part ≡ row → length row ≡ 3 → own_place base s + row_size base ≤ length l
+    → put_mid (3 * s) (3 * s + 3 - 3 * s) l part ≡ sets l (own_place base s) row
+row-put l row s {part} e n h =
+    let k : 3 * s + (3 * s + 3 - 3 * s) ≡ own_place base s + length row = omega arith in
+    (λ i. take (3 * s) l ++ (e i ++ drop (3 * s + 3 - 3 * s) (drop (3 * s) l)))
+    ∙ ap (λ (x : List ℕ). take (3 * s) l ++ (row ++ x)) (drop-drop (3 * s + 3 - 3 * s) (3 * s) l ∙ ap (λ (m : ℕ). drop m l) k)
+    ∙ sym (append_assoc (take (3 * s) l) row (drop (own_place base s + length row) l))
+    ∙ sym (sets-eq row l (own_place base s) (omega arith))
 
 -- ---- rows that a function gives
 

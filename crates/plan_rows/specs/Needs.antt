@@ -1,9 +1,18 @@
--- A store grown by classes where 15 takes them, and unchanged where not. Definitions only.
-use Rattle.std.specs.Prelude.{cond, List}
+-- A store grown by classes where refusal 15 does not hold. Definitions only.
+use Rattle.std.specs.Prelude.{Option, Some, None, Result, Ok, Err, cond, List, [], ℕ}
+use Rattle.refusals.specs.declared.Refusal.{Refusal}
+use Rattle.refusals.specs.declared.Refusal.TheVariants.{Store}
+use Rattle.graph_rules.specs.Graph.{State}
 use Rattle.classes.specs.Classes.{Class}
+use Rattle.edges.specs.Edges.{class_to}
 use Rattle.mask_store.specs.declared.MaskStore.{MaskStore}
 use Rattle.mask_store.specs.Masks.{takes, grown}
-use Rattle.plan_rows.specs.declared.needs.Grown.{Grown}
+use Rattle.plan_rules.specs.Plan.{base, way_to, masked}
 
-unfoldable pub grown_by : MaskStore → List Class → Grown
-grown_by store cs = record { taken = takes store cs; store = cond (takes store cs) (grown store cs) store }
+unfoldable pub grown_by : MaskStore → List Class → Result MaskStore Refusal
+grown_by store cs = cond (takes store cs) (Ok (grown store cs)) (Err Store)
+
+-- the classes that an edge needs a mask for where no table is used; none where there is no edge
+abbrev pub edge_need : State → ℕ → Option ℕ → List Class
+edge_need st s None = []
+edge_need st s (Some u) = masked (way_to base st s u) (class_to st u)

@@ -1,50 +1,51 @@
 // The byte edges of one state.
 ghost use Rattle.std.specs.Prelude.{◌≡◌, true, ◌<◌, get_or};
-ghost use Rattle.graph_rules.specs.Graph.{graph_fits, graph_from};
+ghost use Rattle.graph_rules.specs.Graph.{graph_from};
 ghost use Rattle.plan_rows.specs.Fork.{fork_of};
 
 use crate::way::EDGES;
+use words::graph::Graph;
 
-// How many states the byte edges lead to, whether these are so many that a table is used, whether one of them is the state itself, and the two
-// lowest (0 where there is none).
-#[derive(Clone, Copy)]
+// How they are tested: by a table where they lead to more than two states, else one by one; these are the states, ascending.
+#[derive(Clone, Copy, PartialEq, Eq)]
+pub enum Edges {
+    ByTable,
+    Each([Option<usize>; EDGES]),
+}
+
+// The byte edges of a state, and whether one of them leads to the state itself.
+#[derive(Clone, Copy, PartialEq, Eq)]
 pub struct Fork {
-    pub count: usize,
-    pub table: bool,
     pub own: bool,
-    pub low: usize,
-    pub high: usize,
+    pub edges: Edges,
 }
 
 // The byte edges of state s.
-pub fn fork_at(graph: &[u16], s: usize) -> Fork
-    requires graph_value { graph_fits graph.now ≡ true }
-    requires s_bound { s < get_or graph.now 0 0 }
-    ensures { result ≡ fork_of (graph_from graph.now) s }
+pub fn fork_at(graph: Graph<'_>, s: usize) -> Fork
+    requires s_bound { s < get_or graph.words.now 0 0 }
+    ensures { result ≡ fork_of (graph_from graph.entry.words.now) s }
 {
     let leads = edges::targets(graph, s);
-    let n = words::graph::states(graph);
     let mut count: usize = 0;
-    let mut low: usize = 0;
-    let mut high: usize = 0;
-    let mut u: usize = 0;
-    while u < n {
-        let target = u;
-        u += 1;
-        if leads[target] {
-            count += 1;
-            if count == 1 {
-                low = target;
-            } else if count == 2 {
-                high = target;
+    let mut lowest: [Option<usize>; EDGES] = [None; EDGES];
+    for u in 0..graph.states() {
+        if leads[u] {
+            if count < EDGES {
+                lowest[count] = Some(u);
             }
+            count += 1;
         }
     }
-    Fork {
-        count: count,
-        table: EDGES < count,
-        own: leads[s],
-        low: low,
-        high: high,
+    let own = leads[s];
+    if EDGES < count {
+        Fork {
+            own,
+            edges: Edges::ByTable,
+        }
+    } else {
+        Fork {
+            own,
+            edges: Edges::Each(lowest),
+        }
     }
 }

@@ -6,6 +6,7 @@
 
 pub mod fork;
 pub mod layout;
+pub mod masks;
 pub mod needs;
 pub mod rows;
 pub mod way;

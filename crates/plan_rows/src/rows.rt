@@ -1,111 +1,95 @@
 // The plan's words of a state, by the masks that a store holds; written, and compared.
-ghost use Rattle.std.specs.Prelude.{◌≡◌, true, cond, ◌++◌, suc, ◌+◌, ◌<◌, ◌≤◌, eqb, length, get_or, take, drop};
+ghost use Rattle.std.specs.Prelude.{◌≡◌, true, cond, ◌++◌, Option, Some, None, ◌<◌, ◌≤◌, IfSome, eqb, length, get_or, take, drop};
 ghost use Rattle.lists.specs.Lists.{eq_list};
-ghost use Rattle.graph_rules.specs.Graph.{graph_fits, graph_from, state_of};
+ghost use Rattle.graph_rules.specs.Graph.{graph_from, state_of};
 ghost use Rattle.edges.specs.Edges.{class_to};
 ghost use Rattle.mask_store.specs.Masks.{store_of, held, number_of};
-ghost use Rattle.plan_rules.specs.Plan.{base, way_to, way_word, plan_row, plan_words, plan_size};
+ghost use Rattle.plan_rules.specs.Plan.{base, own_code, edge_code, plan_row, plan_words, plan_size};
+ghost use Rattle.plan_rows.specs.Rows.{target_word};
 
-use crate::fork::fork_at;
-use crate::layout;
+use crate::fork::{Edges, fork_at};
+use crate::layout::{ROW, TABLE, edge_code, has_row, own_code, set_row};
+use crate::masks::Masks;
 use crate::way::way_to;
 use edges::class_to;
-use mask_store::SIZE;
 use mask_store::tables::number_from;
-use plan_rules::Way;
-use words::graph::states;
+use plan_rules::{EdgeWord, Way};
+use words::graph::Graph;
 
 // ---- one state
 
-// The word of the self edge, which always has a mask; 0 where there is none.
-fn own_word(graph: &[u16], s: usize, own: bool, tables: &[u8; SIZE], count: usize) -> u16
-    requires graph_value { graph_fits graph.now ≡ true }
-    requires s_bound { s < get_or graph.now 0 0 }
-    requires count_le_most_masks { (count ≤ 64) × (length tables.now ≡ 2048) }
-    ensures { result ≡ cond own (suc (number_of (held (store_of tables.now count)) (class_to (state_of (graph_from graph.now) s) s))) 0 }
+// The mask of the self edge, which always has one, if there is such an edge.
+fn own_mask(graph: Graph<'_>, s: usize, own: bool, masks: Masks<'_>) -> Option<usize>
+    requires s_bound { s < get_or graph.words.now 0 0 }
+    ensures mask { result ≡ cond own (Some (number_of (held (store_of masks.entry.tables.now masks.entry.count)) (class_to (state_of (graph_from graph.entry.words.now) s) s))) None }
+    ensures few { own_code result ≤ 65 }
 {
-    if !own {
-        return 0;
+    if own {
+        let class = class_to(graph, s, s);
+        Some(number_from(masks.tables, 0, masks.count, &class))
+    } else {
+        None
     }
-    let class = class_to(graph, s, s);
-    (1 + number_from(tables, 0, count, &class)) as u16
 }
 
-// The word of the edge from s to u where no table is used: its class is looked for only if it takes a mask.
-fn edge_word(graph: &[u16], s: usize, u: usize, tables: &[u8; SIZE], count: usize) -> u16
-    requires graph_value { graph_fits graph.now ≡ true }
-    requires s_bound { s < get_or graph.now 0 0 }
-    requires u_bound { u < get_or graph.now 0 0 }
-    requires count_le_most_masks { (count ≤ 64) × (length tables.now ≡ 2048) }
-    ensures { result ≡ way_word (held (store_of tables.now count)) (way_to base (state_of (graph_from graph.now) s) s u) (class_to (state_of (graph_from graph.now) s) u) }
+// The word of an edge of s where no table is used: its class is looked for only if it takes a mask.
+fn edge_word(graph: Graph<'_>, s: usize, target: Option<usize>, masks: Masks<'_>) -> EdgeWord
+    requires s_bound { s < get_or graph.words.now 0 0 }
+    requires target_bound { IfSome target (λ u. u < get_or graph.words.now 0 0) }
+    ensures word { edge_code result ≡ target_word (held (store_of masks.entry.tables.now masks.entry.count)) (state_of (graph_from graph.entry.words.now) s) s target }
+    ensures few { edge_code result ≤ 66 }
 {
-    match way_to(graph, s, u) {
-        Way::BySelf => 0,
-        Way::ByTests => 1,
-        Way::ByMask => {
-            let class = class_to(graph, s, u);
-            (2 + number_from(tables, 0, count, &class)) as u16
-        }
+    match target {
+        Some(u) => match way_to(graph, s, u) {
+            Way::BySelf => EdgeWord::Nothing,
+            Way::ByTests => EdgeWord::Tests,
+            Way::ByMask => {
+                let class = class_to(graph, s, u);
+                EdgeWord::Mask(number_from(masks.tables, 0, masks.count, &class))
+            }
+        },
+        None => EdgeWord::Nothing,
     }
 }
 
 // The plan's words of state s, by the numbers that the store has for its classes.
-fn row_at(graph: &[u16], s: usize, tables: &[u8; SIZE], count: usize) -> [u16; layout::ROW]
-    requires graph_value { graph_fits graph.now ≡ true }
-    requires s_bound { s < get_or graph.now 0 0 }
-    requires count_le_most_masks { (count ≤ 64) × (length tables.now ≡ 2048) }
-    ensures { result ≡ plan_row base (held (store_of tables.now count)) (graph_from graph.now) s }
+fn row_at(graph: Graph<'_>, s: usize, masks: Masks<'_>) -> [u16; ROW]
+    requires s_bound { s < get_or graph.words.now 0 0 }
+    ensures { result ≡ plan_row base (held (store_of masks.entry.tables.now masks.entry.count)) (graph_from graph.entry.words.now) s }
 {
     let fork = fork_at(graph, s);
-    let to_self = fork.own;
-    let own = own_word(graph, s, to_self, tables, count);
-    if fork.table {
-        return [own, layout::TABLE, layout::TABLE];
+    let own = own_code(own_mask(graph, s, fork.own, masks));
+    match fork.edges {
+        Edges::ByTable => [own, TABLE, TABLE],
+        Edges::Each(targets) => {
+            let low = edge_word(graph, s, targets[0], masks);
+            let high = edge_word(graph, s, targets[1], masks);
+            [own, edge_code(low), edge_code(high)]
+        }
     }
-    if fork.count == 0 {
-        return [own, 0, 0];
-    }
-    let low = edge_word(graph, s, fork.low, tables, count);
-    if fork.count == 1 {
-        return [own, low, 0];
-    }
-    let high = edge_word(graph, s, fork.high, tables, count);
-    [own, low, high]
 }
 
 // ---- all states
 
 // The plan is written into the front of the buffer.
-pub fn write(graph: &[u16], plan: &mut [u16], tables: &[u8; SIZE], count: usize)
-    requires graph_value { graph_fits graph.now ≡ true }
-    requires graph_in_bounds { plan_size base (graph_from graph.now) ≤ length plan.old }
-    requires count_le_most_masks { (count ≤ 64) × (length tables.now ≡ 2048) }
-    ensures { plan.new ≡ plan_words base (held (store_of tables.now count)) (graph_from graph.now) ++ drop (plan_size base (graph_from graph.now)) plan.old }
+pub fn write(graph: Graph<'_>, plan: &mut [u16], masks: Masks<'_>)
+    requires graph_in_bounds { plan_size base (graph_from graph.words.now) ≤ length plan.old }
+    ensures { plan.new ≡ plan_words base (held (store_of masks.entry.tables.now masks.entry.count)) (graph_from graph.entry.words.now) ++ drop (plan_size base (graph_from graph.entry.words.now)) plan.old }
 {
-    let n = states(graph);
-    let mut s: usize = 0;
-    while s < n {
-        let row = row_at(graph, s, tables, count);
-        layout::set_row(plan, s, row);
-        s += 1;
+    for s in 0..graph.states() {
+        set_row(plan, s, row_at(graph, s, masks));
     }
 }
 
 // Whether the words begin with the plan.
-pub fn agrees(graph: &[u16], plan: &[u16], tables: &[u8; SIZE], count: usize) -> bool
-    requires graph_value { graph_fits graph.now ≡ true }
-    requires graph_in_bounds { plan_size base (graph_from graph.now) ≤ length plan.now }
-    requires count_le_most_masks { (count ≤ 64) × (length tables.now ≡ 2048) }
-    ensures { result ≡ eq_list eqb (take (plan_size base (graph_from graph.now)) plan.now) (plan_words base (held (store_of tables.now count)) (graph_from graph.now)) }
+pub fn agrees(graph: Graph<'_>, plan: &[u16], masks: Masks<'_>) -> bool
+    requires graph_in_bounds { plan_size base (graph_from graph.words.now) ≤ length plan.now }
+    ensures { result ≡ eq_list eqb (take (plan_size base (graph_from graph.entry.words.now)) plan.now) (plan_words base (held (store_of masks.entry.tables.now masks.entry.count)) (graph_from graph.entry.words.now)) }
 {
-    let n = states(graph);
-    let mut s: usize = 0;
-    while s < n {
-        let row = row_at(graph, s, tables, count);
-        if !layout::has_row(plan, s, row) {
+    for s in 0..graph.states() {
+        if !has_row(plan, s, row_at(graph, s, masks)) {
             return false;
         }
-        s += 1;
     }
     true
 }

@@ -1,9 +1,10 @@
 // How a plan has the bytes of a state tested (docs/RULES.md, "Plan").
 ghost use Rattle.std.specs.Prelude.{◌≡◌, true, ◌<◌, get_or};
-ghost use Rattle.graph_rules.specs.Graph.{graph_fits, graph_from, state_of};
+ghost use Rattle.graph_rules.specs.Graph.{graph_from, state_of};
 ghost use Rattle.plan_rules.specs.Plan.{base, way_to};
 
 use plan_rules::Way;
+use words::graph::Graph;
 
 // Above so many byte edges a state is run by a table.
 pub const EDGES: usize = 2;
@@ -12,18 +13,16 @@ pub const EDGES: usize = 2;
 pub(crate) const COST: usize = 2;
 
 // How a byte is tested for the edge from s to u where no table is used.
-pub fn way_to(graph: &[u16], s: usize, u: usize) -> Way
-    requires graph_value { graph_fits graph.now ≡ true }
-    requires s_bound { s < get_or graph.now 0 0 }
-    requires u_bound { u < get_or graph.now 0 0 }
-    ensures { result ≡ way_to base (state_of (graph_from graph.now) s) s u }
+pub fn way_to(graph: Graph<'_>, s: usize, u: usize) -> Way
+    requires s_bound { s < get_or graph.words.now 0 0 }
+    requires u_bound { u < get_or graph.words.now 0 0 }
+    ensures { result ≡ way_to base (state_of (graph_from graph.entry.words.now) s) s u }
 {
     if u == s {
-        return Way::BySelf;
+        Way::BySelf
+    } else if COST < classes::byte_class::cost(&edges::class_to(graph, s, u)) {
+        Way::ByMask
+    } else {
+        Way::ByTests
     }
-    let class = edges::class_to(graph, s, u);
-    if COST < classes::byte_class::cost(&class) {
-        return Way::ByMask;
-    }
-    Way::ByTests
 }

@@ -1,8 +1,8 @@
 -- What a state's plan words say of a byte: the self mask has it exactly if it leads back, and it is led on as the row says. Assumes nothing.
+use Rattle.std.specs.Prelude.{Option, Some, None}
 use mathlib.Core.Path.{◌≡◌, refl, sym, ap, ◌∙◌}
 use mathlib.Core.Bool.{true, false, cond, false≢true}
 use mathlib.Core.List.{List, [], ◌∷◌, ◌++◌, map}
-use mathlib.Core.Option.{Option, none, some}
 use mathlib.Core.Logic.{◌⊎◌, inl, inr}
 use Prim.Native.Nat.{ℕ, zero, suc, ◌+◌, ◌-◌, ◌≤◌, ◌<◌}
 use native.Mathlib.Omega.{arith}
@@ -30,7 +30,7 @@ use Rattle.lists.proofs.Flattened.{option-ne, is_member, all-mapped}
 
 -- ---- the edges of a state
 
-pub target-member : (n : ℕ) (st : State) (b v : ℕ) → v < n → get_or (bytes_of st) b none ≡ some v → is_member v (targets n st) ≡ true
+pub target-member : (n : ℕ) (st : State) (b v : ℕ) → v < n → get_or (bytes_of st) b None ≡ Some v → is_member v (targets n st) ≡ true
 target-member n st b v h e = target-leads st n v h ∙ byte-leads st b v e
 
 -- an edge's word says no table
@@ -58,15 +58,15 @@ module _ (store : MaskStore) (cs : List Class) where
 
     module _ (b : ℕ) (byte : b < 256) where
       abbrev o : Option ℕ
-      o = get_or (bytes_of st) b none
+      o = get_or (bytes_of st) b None
 
       -- the test that the plan names for an edge tells whether the byte leads along it
-      edge-takes : (u : ℕ) → (o ≡ some s → ⊥) → edge_held store.count (word u) ≡ true → edge_takes store.tables st u (word u) b ≡ eq_option (some u) o
+      edge-takes : (u : ℕ) → (o ≡ Some s → ⊥) → edge_held store.count (word u) ≡ true → edge_takes store.tables st u (word u) b ≡ eq_option (Some u) o
       unfolding way_to
       edge-takes u ne held = go (is (eqb u s)) (is (ltb set.cost (cost (class_to st u))))
         where
-          go : Is (eqb u s) → Is (ltb set.cost (cost (class_to st u))) → edge_takes store.tables st u (word u) b ≡ eq_option (some u) o
-          go (yes-is q) x = rw q (sym (option-ne u o (λ e. ne (e ∙ ap {B = Option ℕ} some (eqb-true u s q)))))
+          go : Is (eqb u s) → Is (ltb set.cost (cost (class_to st u))) → edge_takes store.tables st u (word u) b ≡ eq_option (Some u) o
+          go (yes-is q) x = rw q (sym (option-ne u o (λ e. ne (e ∙ ap {B = Option ℕ} Some (eqb-true u s q)))))
           go (no-is q) (no-is p) = rw (q, p) (comparisons-has (class_to st u) b ∙ class-flag st u b)
           go (no-is q) (yes-is p) =
               rw (q, p) (named-has (class_to st u) b byte (below-count (or_cases _ _ (rw (q, p) at held))) ∙ class-flag st u b)
@@ -80,47 +80,47 @@ module _ (store : MaskStore) (cs : List Class) where
                   absurd (omega arith)
 
       -- so of the edges the one is found that the row has
-      along-none : (l rest : List ℕ) → ((u : ℕ) → is_member u l ≡ true → edge_takes store.tables st u (word u) b ≡ eq_option (some u) o) → o ≡ none
-          → along store.tables st l (map word l ++ rest) b ≡ none
+      along-none : (l rest : List ℕ) → ((u : ℕ) → is_member u l ≡ true → edge_takes store.tables st u (word u) b ≡ eq_option (Some u) o) → o ≡ None
+          → along store.tables st l (map word l ++ rest) b ≡ None
       along-none [] rest f e = refl
       along-none (u ∷ l) rest f e =
-          let t : edge_takes store.tables st u (word u) b ≡ false = f u (or_left _ _ (eq-eqb u u refl)) ∙ ap (eq_option (some u)) e in
+          let t : edge_takes store.tables st u (word u) b ≡ false = f u (or_left _ _ (eq-eqb u u refl)) ∙ ap (eq_option (Some u)) e in
           rw (t, along) (along-none l rest (λ v m. f v (or_right (eqb v u) _ m)) e)
 
-      along-some : (l rest : List ℕ) → ((u : ℕ) → is_member u l ≡ true → edge_takes store.tables st u (word u) b ≡ eq_option (some u) o) → (v : ℕ) → o ≡ some v
-          → is_member v l ≡ true → along store.tables st l (map word l ++ rest) b ≡ some v
+      along-some : (l rest : List ℕ) → ((u : ℕ) → is_member u l ≡ true → edge_takes store.tables st u (word u) b ≡ eq_option (Some u) o) → (v : ℕ) → o ≡ Some v
+          → is_member v l ≡ true → along store.tables st l (map word l ++ rest) b ≡ Some v
       along-some [] rest f v e m = absurd (false≢true m)
       along-some (u ∷ l) rest f v e m = go (is (eqb v u)) (along-some l rest (λ x y. f x (or_right (eqb x u) _ y)) v e)
         where
-          test : edge_takes store.tables st u (word u) b ≡ eq_option (some u) (some v)
-          test = f u (or_left _ _ (eq-eqb u u refl)) ∙ ap (eq_option (some u)) e
+          test : edge_takes store.tables st u (word u) b ≡ eq_option (Some u) (Some v)
+          test = f u (or_left _ _ (eq-eqb u u refl)) ∙ ap (eq_option (Some u)) e
 
-          go : Is (eqb v u) → (is_member v l ≡ true → along store.tables st l (map word l ++ rest) b ≡ some v) → along store.tables st (u ∷ l) (word u ∷ (map word l ++ rest)) b ≡ some v
+          go : Is (eqb v u) → (is_member v l ≡ true → along store.tables st l (map word l ++ rest) b ≡ Some v) → along store.tables st (u ∷ l) (word u ∷ (map word l ++ rest)) b ≡ Some v
           go (yes-is q) g =
               let t : edge_takes store.tables st u (word u) b ≡ true = test ∙ eq-eqb u v (sym (eqb-true v u q)) in
-              rw (t, along) (ap {B = Option ℕ} some (sym (eqb-true v u q)))
+              rw (t, along) (ap {B = Option ℕ} Some (sym (eqb-true v u q)))
           go (no-is q) g =
               let t : edge_takes store.tables st u (word u) b ≡ false = test ∙ ne_eqb u v (λ p. eqb-false v u q (sym p)) in
               rw (t, along) (g (rw q at m))
 
       -- the edge words, where no table is used
-      edges-led : (rest : List ℕ) → ((v : ℕ) → o ≡ some v → v < n) → (o ≡ some s → ⊥) → all_l (edge_held store.count) (map word ts ++ rest) ≡ true
+      edges-led : (rest : List ℕ) → ((v : ℕ) → o ≡ Some v → v < n) → (o ≡ Some s → ⊥) → all_l (edge_held store.count) (map word ts ++ rest) ≡ true
           → along store.tables st ts (map word ts ++ rest) b ≡ o
       edges-led rest closed ne held = go o refl
         where
-          tests : (u : ℕ) → is_member u ts ≡ true → edge_takes store.tables st u (word u) b ≡ eq_option (some u) o
+          tests : (u : ℕ) → is_member u ts ≡ true → edge_takes store.tables st u (word u) b ≡ eq_option (Some u) o
           tests u m = edge-takes u ne (all-mapped (edge_held store.count) word ts rest u held m)
 
           go : (p : Option ℕ) → o ≡ p → along store.tables st ts (map word ts ++ rest) b ≡ o
-          go none e = along-none ts rest tests e ∙ sym e
-          go (some v) e = along-some ts rest tests v e (target-member n st b v (closed v e) e) ∙ sym e
+          go None e = along-none ts rest tests e ∙ sym e
+          go (Some v) e = along-some ts rest tests v e (target-member n st b v (closed v e) e) ∙ sym e
 
       -- the self word
-      self-led : ((v : ℕ) → o ≡ some v → v < n) → self_word all st s ts ≤ store.count → self_takes store.tables (self_word all st s ts) b ≡ eq_option (some s) o
+      self-led : ((v : ℕ) → o ≡ Some v → v < n) → self_word all st s ts ≤ store.count → self_takes store.tables (self_word all st s ts) b ≡ eq_option (Some s) o
       unfolding self_word
       self-led closed h = go (is (any_l (eqb s) ts))
         where
-          go : Is (any_l (eqb s) ts) → self_takes store.tables (cond (any_l (eqb s) ts) (suc (number_of all (class_to st s))) 0) b ≡ eq_option (some s) o
+          go : Is (any_l (eqb s) ts) → self_takes store.tables (cond (any_l (eqb s) ts) (suc (number_of all (class_to st s))) 0) b ≡ eq_option (Some s) o
           go (yes-is q) =
               let l : suc (number_of all (class_to st s)) ≤ store.count = rw q at h in
               rw q (named-has (class_to st s) b byte l ∙ class-flag st s b)
@@ -129,23 +129,23 @@ module _ (store : MaskStore) (cs : List Class) where
 -- ---- a state of a graph, and its row of the plan
 
 module _ (set : Settings) (sane : Sane set) (g : Graph) (store : MaskStore) (cs : List Class) (few : length (held_with store cs) ≤ most_masks)
-    (closed : (s c u : ℕ) → to g s c ≡ some u → u < length g.states) (s b : ℕ) (byte : b < 256) where
+    (closed : (s c u : ℕ) → to g s c ≡ Some u → u < length g.states) (s b : ℕ) (byte : b < 256) where
   abbrev row : List ℕ
   row = plan_row set (held_with store cs) g s
 
-  byte_at : get_or (bytes_of (state_of g s)) b none ≡ to g s b
+  byte_at : get_or (bytes_of (state_of g s)) b None ≡ to g s b
   unfolding to
-  byte_at = get_or-take 256 (state_of g s).steps b none byte
+  byte_at = get_or-take 256 (state_of g s).steps b None byte
 
-  closed-here : (v : ℕ) → get_or (bytes_of (state_of g s)) b none ≡ some v → v < length g.states
+  closed-here : (v : ℕ) → get_or (bytes_of (state_of g s)) b None ≡ Some v → v < length g.states
   closed-here v e = closed s b v (sym byte_at ∙ e)
 
   -- the self mask has the byte exactly if it leads back
-  pub row-self : row_held store.count row ≡ true → self_takes store.tables (self_of row) b ≡ eq_option (some s) (to g s b)
+  pub row-self : row_held store.count row ≡ true → self_takes store.tables (self_of row) b ≡ eq_option (Some s) (to g s b)
   unfolding plan_row
   row-self h =
       self-led store cs set (state_of g s) (length g.states) s few b byte closed-here (leb-true _ _ (and_both (leb (self_of row) store.count) _ h).0)
-      ∙ ap (eq_option (some s)) byte_at
+      ∙ ap (eq_option (Some s)) byte_at
 
   led-table : (w : List ℕ) → says_table w ≡ true → led_by g w store.tables s b ≡ to g s b
   unfolding led_by
@@ -168,7 +168,7 @@ module _ (set : Settings) (sane : Sane set) (g : Graph) (store : MaskStore) (cs 
   first_small (u ∷ l) m = no-table-word (held_with store cs) few (way_to set (state_of g s) s u) (class_to (state_of g s) u)
 
   -- and any other byte is led on as the graph's row says
-  pub row-led : row_held store.count row ≡ true → (to g s b ≡ some s → ⊥) → led_by g row store.tables s b ≡ to g s b
+  pub row-led : row_held store.count row ≡ true → (to g s b ≡ Some s → ⊥) → led_by g row store.tables s b ≡ to g s b
   unfolding plan_row edge_words
   row-led h ne = go (is (by_table set ts-here)) (and_both (leb (self_of row) store.count) _ h).1
     where

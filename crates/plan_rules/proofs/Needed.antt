@@ -1,8 +1,8 @@
 -- What `Sane` asks for is needed: with a word too few for the edges, or with no word to tell a table by, the run by a graph's own plan misses what the
 -- walk reads. Assumes nothing.
+use Rattle.std.specs.Prelude.{Some, None}
 use mathlib.Core.Path.{◌≡◌, refl}
 use mathlib.Core.List.{[], ◌∷◌, ◌++◌, flat_map}
-use mathlib.Core.Option.{none, some}
 use lib.ListN.{replicate}
 use Rattle.classes.specs.Classes.{ranges, comparisons, cost}
 use Rattle.graph_rules.specs.Layout.{step_count}
@@ -18,9 +18,9 @@ use Rattle.plan_rules.specs.Run.{led_by, rows_of, run}
 unfoldable pub forked : Graph
 forked =
     record {
-      states = record { steps = replicate 97 none ++ some 1 ∷ some 2 ∷ replicate 158 none; accept = none; early = none }
-          ∷ record { steps = replicate step_count none; accept = none; early = some 0 }
-          ∷ record { steps = replicate step_count none; accept = none; early = some 1 }
+      states = record { steps = replicate 97 None ++ Some 1 ∷ Some 2 ∷ replicate 158 None; accept = None; early = None }
+          ∷ record { steps = replicate step_count None; accept = None; early = Some 0 }
+          ∷ record { steps = replicate step_count None; accept = None; early = Some 1 }
           ∷ [];
       root = 0;
     }
@@ -37,7 +37,7 @@ unfoldable pub planned : Settings → Reading
 unfolding walked flat_map ranges comparisons cost held held_with mask_has class_to leads_to targets by_table way_to self_needs edge_needs state_needs needs self_word edge_words plan_row plan_words plan_of led_by rows_of run emptied
 planned set = run set forked (plan_of set forked emptied) emptied (98 ∷ [])
 
-pub walk-reads : walked ≡ some (record { leaf = 1; end = 1 })
+pub walk-reads : walked ≡ Some (record { leaf = 1; end = 1 })
 unfolding walked
 walk-reads = refl
 
@@ -46,11 +46,11 @@ unfolding planned
 base-reads = refl
 
 -- two edges, and one word for them
-pub word-too-few : planned (record { edges = 2; cost = 2; words = 1 }) ≡ none
+pub word-too-few : planned (record { edges = 2; cost = 2; words = 1 }) ≡ None
 unfolding planned
 word-too-few = refl
 
 -- all edges by a table, and no word to say so
-pub no_word : planned (record { edges = 0; cost = 2; words = 0 }) ≡ none
+pub no_word : planned (record { edges = 0; cost = 2; words = 0 }) ≡ None
 unfolding planned
 no_word = refl

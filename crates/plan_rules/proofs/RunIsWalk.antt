@@ -1,9 +1,9 @@
 -- The planned run of a text is its reading by the graph. The run and the walk go byte by byte; in a state that the byte leads back to, the run
 -- passes it and the walk enters the state again, which records what counts. Assumes nothing.
+use Rattle.std.specs.Prelude.{Option, Some, None}
 use mathlib.Core.Path.{◌≡◌, refl, sym, ap, subst, ◌∙◌}
 use mathlib.Core.Bool.{true, false, cond, false≢true}
 use mathlib.Core.List.{List, [], ◌∷◌, ◌++◌, map, flat_map}
-use mathlib.Core.Option.{Option, none, some}
 use mathlib.Core.Logic.{◌⊎◌, inl, inr}
 use Prim.Native.Nat.{ℕ, suc, ◌-◌, ◌*◌, ◌≤◌, ◌<◌}
 use native.Mathlib.Omega.{arith}
@@ -80,14 +80,14 @@ module _ (set : Settings) (sane : Sane set) (all : List Class) (g : Graph) where
 -- ---- run and walk, from any state
 
 module _ (set : Settings) (sane : Sane set) (g : Graph) (store : MaskStore) (cs : List Class) (few : length (held_with store cs) ≤ most_masks)
-    (closed : (s c u : ℕ) → to g s c ≡ some u → u < length g.states) (rows : List (List ℕ))
+    (closed : (s c u : ℕ) → to g s c ≡ Some u → u < length g.states) (rows : List (List ℕ))
     (row_is : (s : ℕ) → s < length g.states → get_or rows s [] ≡ plan_row set (held_with store cs) g s)
     (held : (s : ℕ) → s < length g.states → row_held store.count (plan_row set (held_with store cs) g s) ≡ true) where
-  self-byte : (s b : ℕ) → s < length g.states → b < 256 → self_takes store.tables (self_of (get_or rows s [])) b ≡ eq_option (some s) (to g s b)
+  self-byte : (s b : ℕ) → s < length g.states → b < 256 → self_takes store.tables (self_of (get_or rows s [])) b ≡ eq_option (Some s) (to g s b)
   self-byte s b h byte =
       ap (λ (r : List ℕ). self_takes store.tables (self_of r) b) (row_is s h) ∙ row-self set sane g store cs few closed s b byte (held s h)
 
-  led-byte : (s b : ℕ) → s < length g.states → b < 256 → (to g s b ≡ some s → ⊥) → led_by g (get_or rows s []) store.tables s b ≡ to g s b
+  led-byte : (s b : ℕ) → s < length g.states → b < 256 → (to g s b ≡ Some s → ⊥) → led_by g (get_or rows s []) store.tables s b ≡ to g s b
   led-byte s b h byte ne =
       ap (λ (r : List ℕ). led_by g r store.tables s b) (row_is s h) ∙ row-led set sane g store cs few closed s b byte (held s h) ne
 
@@ -105,18 +105,18 @@ module _ (set : Settings) (sane : Sane set) (g : Graph) (store : MaskStore) (cs 
 
       on : (o : Option ℕ) → to g s b ≡ o → ((s k : ℕ) (r : Reading) → s < length g.states → run_from g rows store.tables s k r text ≡ walk (graph_walker g) s k r text)
           → onward q (λ u. run_from g rows store.tables u (suc k) q text) o ≡ onward q (λ u. walk (graph_walker g) u (suc k) q text) o
-      on none e f = refl
-      on (some u) e f = f u (suc k) q (closed s b u e)
+      on None e f = refl
+      on (Some u) e f = f u (suc k) q (closed s b u e)
 
       go : Is (self_takes store.tables (self_of (get_or rows s [])) b)
           → ((s k : ℕ) (r : Reading) → s < length g.states → run_from g rows store.tables s k r text ≡ walk (graph_walker g) s k r text)
           → run_from g rows store.tables s k r (b ∷ text) ≡ walk (graph_walker g) s k r (b ∷ text)
       go (yes-is t) f =
-          let e : to g s b ≡ some s = sym (option-sound.eq (some s) (to g s b) (sym (self-byte s b h byte) ∙ t)) in
+          let e : to g s b ≡ Some s = sym (option-sound.eq (Some s) (to g s b) (sym (self-byte s b h byte) ∙ t)) in
           let p : run_from g rows store.tables s k r (b ∷ text) ≡ run_from g rows store.tables s (suc k) r text = rw (t, run_from) in
           p ∙ f s (suc k) r h ∙ sym (walk-again g s k r text) ∙ ap (onward q (λ u. walk (graph_walker g) u (suc k) q text)) (sym e)
       go (no-is t) f =
-          let ne : to g s b ≡ some s → ⊥ = λ e. false≢true (sym t ∙ self-byte s b h byte ∙ ap (eq_option (some s)) e ∙ option-sound.self (some s)) in
+          let ne : to g s b ≡ Some s → ⊥ = λ e. false≢true (sym t ∙ self-byte s b h byte ∙ ap (eq_option (Some s)) e ∙ option-sound.self (Some s)) in
           let p : run_from g rows store.tables s k r (b ∷ text) ≡ onward q (λ u. run_from g rows store.tables u (suc k) q text) (led_by g (get_or rows s []) store.tables s b) = rw (t, run_from) in
           p ∙ ap (onward q (λ u. run_from g rows store.tables u (suc k) q text)) (led-byte s b h byte ne) ∙ on (to g s b) refl f
 
@@ -127,34 +127,34 @@ module _ (g : Graph) (empty : length g.states ≡ 0) where
   unfolding state_of
   all-blank s = lib.ListN.get_or-eq_default g.states blank (omega arith)
 
-  no-mark : (s k : ℕ) → mark (early_of g s) (accept_of g s) k none ≡ none
+  no-mark : (s k : ℕ) → mark (early_of g s) (accept_of g s) k None ≡ None
   unfolding early_of accept_of
-  no-mark s k = ap (λ (st : State). mark st.early st.accept k none) (all-blank s)
+  no-mark s k = ap (λ (st : State). mark st.early st.accept k None) (all-blank s)
 
-  no_edge : (s c : ℕ) → to g s c ≡ none
+  no_edge : (s c : ℕ) → to g s c ≡ None
   unfolding to
-  no_edge s c = ap (λ (st : State). get_or st.steps c none) (all-blank s)
+  no_edge s c = ap (λ (st : State). get_or st.steps c None) (all-blank s)
 
-  pub empty-reads : (text : List ℕ) → read_graph g text ≡ none
+  pub empty-reads : (text : List ℕ) → read_graph g text ≡ None
   unfolding read_graph graph_walker
-  empty-reads [] = ap (λ (q : Reading). onward q (λ u. late (accept_of g u) 1 q) (to g g.root end_step)) (no-mark g.root 0) ∙ ap (onward none (λ u. late (accept_of g u) 1 none)) (no_edge g.root end_step)
+  empty-reads [] = ap (λ (q : Reading). onward q (λ u. late (accept_of g u) 1 q) (to g g.root end_step)) (no-mark g.root 0) ∙ ap (onward None (λ u. late (accept_of g u) 1 None)) (no_edge g.root end_step)
   empty-reads (b ∷ text) =
       ap (λ (q : Reading). onward q (λ u. walk (graph_walker g) u 1 q text) (to g g.root b)) (no-mark g.root 0)
-      ∙ ap (onward none (λ u. walk (graph_walker g) u 1 none text)) (no_edge g.root b)
+      ∙ ap (onward None (λ u. walk (graph_walker g) u 1 None text)) (no_edge g.root b)
 
-  no-along : (tables : List ℕ) (st : State) (ts : List ℕ) (b : ℕ) → along tables st ts [] b ≡ none
+  no-along : (tables : List ℕ) (st : State) (ts : List ℕ) (b : ℕ) → along tables st ts [] b ≡ None
   no-along tables st [] b = refl
   no-along tables st (u ∷ ts) b = refl
 
-  no-led : (tables : List ℕ) (s b : ℕ) → led_by g [] tables s b ≡ none
+  no-led : (tables : List ℕ) (s b : ℕ) → led_by g [] tables s b ≡ None
   unfolding led_by
   no-led tables s b = no-along tables (state_of g s) (targets (length g.states) (state_of g s)) b
 
-  pub empty_runs : (tables text : List ℕ) → run_from g [] tables g.root 0 none text ≡ none
-  empty_runs tables [] = ap (λ (q : Reading). onward q (λ u. late (accept_of g u) 1 q) (to g g.root end_step)) (no-mark g.root 0) ∙ ap (onward none (λ u. late (accept_of g u) 1 none)) (no_edge g.root end_step)
+  pub empty_runs : (tables text : List ℕ) → run_from g [] tables g.root 0 None text ≡ None
+  empty_runs tables [] = ap (λ (q : Reading). onward q (λ u. late (accept_of g u) 1 q) (to g g.root end_step)) (no-mark g.root 0) ∙ ap (onward None (λ u. late (accept_of g u) 1 None)) (no_edge g.root end_step)
   empty_runs tables (b ∷ text) =
       ap (λ (q : Reading). onward q (λ u. run_from g [] tables u 1 q text) (led_by g [] tables g.root b)) (no-mark g.root 0)
-      ∙ ap (onward none (λ u. run_from g [] tables u 1 none text)) (no-led tables g.root b)
+      ∙ ap (onward None (λ u. run_from g [] tables u 1 None text)) (no-led tables g.root b)
 
 -- ---- a run with the plan, on a store that holds its masks
 
@@ -179,7 +179,7 @@ module _ (set : Settings) (sane : Sane set) (g : Graph) (store : MaskStore) wher
       ap (row_held store.count) (sym (ap (λ (r : List (List ℕ)). get_or r s []) (rows-of words h) ∙ row_at set sane (held_with store (needs set g)) g s l))
       ∙ all-at (row_held store.count) (rows_of set g words) s [] (rows-held words h) (subst (λ (m : ℕ). s < m) (sym w) l)
 
-  module _ (closed : (s c u : ℕ) → to g s c ≡ some u → u < length g.states)
+  module _ (closed : (s c u : ℕ) → to g s c ≡ Some u → u < length g.states)
       (root : (g.root < length g.states) ⊎ (length g.states ≡ 0)) where
     pub plan-runs : takes store (needs set g) ≡ true → (words : List ℕ) → is_plan set g words store ≡ true → (text : List ℕ) → Bytes text
         → run set g words store text ≡ read_graph g text
@@ -189,11 +189,11 @@ module _ (set : Settings) (sane : Sane set) (g : Graph) (store : MaskStore) wher
         all : List Class
         all = held_with store (needs set g)
 
-        go : (g.root < length g.states) ⊎ (length g.states ≡ 0) → run_from g (rows_of set g words) store.tables g.root 0 none text ≡ read_graph g text
+        go : (g.root < length g.states) ⊎ (length g.states ≡ 0) → run_from g (rows_of set g words) store.tables g.root 0 None text ≡ read_graph g text
         go (inl l) =
             run-walk set sane g store (needs set g) (takes-few store (needs set g) t) closed (rows_of set g words)
             (λ s b. ap (λ (r : List (List ℕ)). get_or r s []) (rows-of words h) ∙ row_at set sane all g s b)
-            (row-held words h) text bytes g.root 0 none l
+            (row-held words h) text bytes g.root 0 None l
         go (inr e) =
-            ap (λ (m : ℕ). run_from g (pieces (suc set.words) m words) store.tables g.root 0 none text) e
+            ap (λ (m : ℕ). run_from g (pieces (suc set.words) m words) store.tables g.root 0 None text) e
             ∙ empty_runs g e store.tables text ∙ sym (empty-reads g e text)

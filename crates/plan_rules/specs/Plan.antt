@@ -1,5 +1,5 @@
 -- The plan of a graph on a mask store (docs/RULES.md, "Plan"). Definitions only.
-use Rattle.std.specs.Prelude.{Bool, cond, ◌&&◌, ℕ, suc, ◌+◌, ◌*◌, ◌-◌, ◌≤◌, eqb, ltb, length, replicate}
+use Rattle.std.specs.Prelude.{Bool, true, false, cond, ◌&&◌, ℕ, zero, suc, Option, Some, None, ◌+◌, ◌*◌, ◌-◌, ◌≤◌, eqb, ltb, length, replicate}
 use mathlib.Core.List.{List, [], ◌∷◌, ◌++◌, map, flat_map}
 use Rattle.lists.specs.Lists.{below, any_l, all_l}
 use Rattle.graph_rules.specs.Graph.{State, Graph, state_of}
@@ -9,6 +9,8 @@ use Rattle.mask_store.specs.Masks.{class_at, same_class, number_of, held_with}
 use Rattle.edges.specs.Edges.{class_to, targets}
 use Rattle.plan_rules.specs.declared.Way.{Way}
 use Rattle.plan_rules.specs.declared.Way.TheVariants.{BySelf, ByTests, ByMask}
+use Rattle.plan_rules.specs.declared.EdgeWord.{EdgeWord}
+use Rattle.plan_rules.specs.declared.EdgeWord.TheVariants.{Nothing, Tests, Mask, Table}
 
 -- "Above 2 byte edges, self included, a 256-entry table is used"; "a mask if its cost is above 2"; "three words a state": one and two for edges
 pub record Settings : Type 0 where
@@ -49,6 +51,32 @@ abbrev pub way_word : List Class → Way → Class → ℕ
 way_word all BySelf c = 0
 way_word all ByTests c = 1
 way_word all ByMask c = suc (suc (number_of all c))
+
+-- ---- what the words say
+
+-- the self edge's: its mask, if it has one
+abbrev pub own_said : ℕ → Option ℕ
+own_said zero = None
+own_said (suc i) = Some i
+
+abbrev pub own_code : Option ℕ → ℕ
+own_code None = 0
+own_code (Some i) = suc i
+
+-- another edge's
+abbrev pub test_said : ℕ → EdgeWord
+test_said zero = Nothing
+test_said (suc zero) = Tests
+test_said (suc (suc i)) = Mask i
+
+unfoldable pub edge_said : ℕ → EdgeWord
+edge_said w = elim (eqb w table_word) [ true ↦ Table | false ↦ test_said w ]
+
+abbrev pub edge_code : EdgeWord → ℕ
+edge_code Nothing = 0
+edge_code Tests = 1
+edge_code (Mask i) = suc (suc i)
+edge_code Table = table_word
 
 module _ (set : Settings) where
   -- ---- the choices

@@ -1,6 +1,5 @@
 -- The planned run of a text (docs/RULES.md, "Planned run"), and which plan words it takes. Definitions only.
-use Rattle.std.specs.Prelude.{Bool, true, false, ◌&&◌, ◌||◌, List, [], ◌∷◌, ℕ, zero, suc, ◌+◌, eqb, leb, ltb, length, get_or, take, drop}
-use Rattle.std.proofs.Math.Option.{Option, none, some}
+use Rattle.std.specs.Prelude.{Bool, true, false, ◌&&◌, ◌||◌, List, [], ◌∷◌, ℕ, zero, suc, ◌+◌, eqb, leb, ltb, length, get_or, take, drop, Option, Some, None}
 use Rattle.lists.specs.Lists.{all_l, pieces, eq_list}
 use Rattle.graph_rules.specs.Graph.{State, Graph, state_of, to, accept_of, early_of}
 use Rattle.graph_rules.specs.Read.{Reading, mark, late, onward}
@@ -30,9 +29,9 @@ edge_takes tables st u (suc zero) b = some_holds (comparisons (class_to st u)) b
 edge_takes tables st u (suc (suc i)) b = mask_has tables i b
 
 abbrev pub along : List ℕ → State → List ℕ → List ℕ → ℕ → Option ℕ
-along tables st [] ws b = none
-along tables st (u ∷ ts) [] b = none
-along tables st (u ∷ ts) (w ∷ ws) b = elim (edge_takes tables st u w b) [ true ↦ some u | false ↦ along tables st ts ws b ]
+along tables st [] ws b = None
+along tables st (u ∷ ts) [] b = None
+along tables st (u ∷ ts) (w ∷ ws) b = elim (edge_takes tables st u w b) [ true ↦ Some u | false ↦ along tables st ts ws b ]
 
 -- "Byte k is led on by the row's targets if the plan says table; else along the edge .."
 unfoldable pub led_by : Graph → List ℕ → List ℕ → ℕ → ℕ → Option ℕ
@@ -70,7 +69,7 @@ module _ (set : Settings) where
 
   -- "starts at the root, or reads none where the graph has no states": its root has no marks and no edges then
   unfoldable pub run : Graph → List ℕ → MaskStore → List ℕ → Reading
-  run g words store text = run_from g (rows_of g words) store.tables g.root 0 none text
+  run g words store text = run_from g (rows_of g words) store.tables g.root 0 None text
 
   -- 14: "a run's plan, where 15 doesn't hold, not the one its graph and store give or naming a mask not held"
   unfoldable pub is_plan : Graph → List ℕ → MaskStore → Bool

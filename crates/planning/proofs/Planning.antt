@@ -2,7 +2,7 @@
 use mathlib.Core.Path.{◌≡◌, sym, ap, ◌∙◌}
 use mathlib.Core.Bool.{true, false}
 use mathlib.Core.List.{List, ◌++◌}
-use Prim.Native.Nat.{ℕ, ◌-◌, ◌*◌, ◌≤◌, ◌<◌}
+use Prim.Native.Nat.{ℕ, ◌*◌, ◌≤◌, ◌<◌}
 use native.Mathlib.Omega.{arith}
 use borrow.Author.Tests.{lt-ltb, le-ltb}
 use lib.ListN.{length, get_or, drop, length-append}
@@ -18,8 +18,12 @@ use Rattle.mask_store.proofs.Growth.{grown-size, held_grown}
 use Rattle.mask_store.proofs.Several.{takes-few}
 use Rattle.plan_rules.specs.Plan.{base, needs, plan_words, plan_of, plan_size}
 use Rattle.plan_rules.proofs.OwnStore.{needs-whole}
-use Rattle.planning.specs.declared.plan.PlanAnswer.TheVariants.{Planned}
-use Rattle.planning.specs.Plan.{PlanCall, no_plan, plan_call}
+use Rattle.refusals.specs.declared.Refusal.TheVariants.{GraphForm, PlanOrOffset, Store}
+use Rattle.std.specs.Prelude.{Err}
+use Rattle.refusals.specs.declared.Refusal.{Refusal}
+use Rattle.plan_rows.specs.Needs.{grown_by}
+use Rattle.plan_rows.proofs.Growing.{was-refused, by-refused}
+use Rattle.planning.specs.Plan.{PlanCall, no_plan, planned, plan_call}
 
 -- the words that a plan needs, by the number of states that is read
 pub size_is : (graph : List ℕ) (n : ℕ) → n ≡ get_or graph 0 0 → plan_size base (graph_from graph) ≡ 3 * n
@@ -39,19 +43,22 @@ module _ (graph out : List ℕ) (store : MaskStore) where
   abbrev needed : List Class
   needed = needs base g
 
-  pub plan-unfit : graph_fits graph ≡ false → plan_call base graph out store ≡ no_plan 12 out store
+  pub plan-unfit : graph_fits graph ≡ false → plan_call base graph out store ≡ no_plan GraphForm out store
   unfolding plan_call
   plan-unfit e = rw e
 
   module _ (fits : graph_fits graph ≡ true) where
-    pub plan-short : length out < plan_size base g → plan_call base graph out store ≡ no_plan 14 out store
+    pub plan-short : length out < plan_size base g → plan_call base graph out store ≡ no_plan PlanOrOffset out store
     unfolding plan_call
     plan-short h = rw (fits, lt-ltb (length out) (plan_size base g) h)
 
     module _ (long : plan_size base g ≤ length out) where
-      pub plan-full : takes store needed ≡ false → plan_call base graph out store ≡ no_plan 15 out store
+      pub plan-full : {x : Refusal} → grown_by store needed ≡ Err x → plan_call base graph out store ≡ no_plan x out store
       unfolding plan_call
-      plan-full t = rw (fits, le-ltb (length out) (plan_size base g) long, t)
+      plan-full {x} e =
+          let t = was-refused store needed e in
+          let r : Store ≡ x = cc (by-refused store needed t) in
+          rw (fits, le-ltb (length out) (plan_size base g) long, t) (ap (λ (y : Refusal). no_plan y out store) r)
 
       module _ (t : takes store needed ≡ true) (after : MaskStore) (e : after ≡ grown store needed) where
         pub after_more : store.count ≤ after.count
@@ -69,15 +76,12 @@ module _ (graph out : List ℕ) (store : MaskStore) where
               )
 
           pub plan-made : (wrote : List ℕ) → wrote ≡ plan_words base (held after) g ++ drop (plan_size base g) out
-              → plan_call base graph out store ≡ record { planning = record { answer = Planned (after.count - store.count); store = after }; buffer = wrote }
+              → plan_call base graph out store ≡ planned store after wrote
           unfolding plan_call plan_of
           plan-made wrote w =
               let h : held after ≡ held_with store needed = ap held e ∙ held_grown store needed size (needs-whole base graph fits) (takes-few store needed t) in
               rw (fits, le-ltb (length out) (plan_size base g) long, t)
-              (λ i. record {
-                planning = record { answer = Planned ((sym e i).count - store.count); store = sym e i };
-                buffer = sym (w ∙ ap (λ (l : List Class). plan_words base l g ++ drop (plan_size base g) out) h) i;
-              })
+              (λ i. planned store (sym e i) (sym (w ∙ ap (λ (l : List Class). plan_words base l g ++ drop (plan_size base g) out) h) i))
 
 -- both parts of an outcome
 pub outcome : {x y : PlanCall} → x ≡ y → (y.planning ≡ x.planning) × (y.buffer ≡ x.buffer)

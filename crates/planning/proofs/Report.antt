@@ -12,7 +12,8 @@ use Rattle.classes.specs.Classes.{Class}
 use Rattle.mask_store.specs.declared.MaskStore.{MaskStore}
 use Rattle.mask_store.specs.Masks.{held_with, grown, takes}
 use Rattle.plan_rules.specs.Plan.{base, needs, plan_of, plan_size}
-use Rattle.planning.specs.declared.plan.PlanAnswer.TheVariants.{Planned}
+use Rattle.std.specs.Prelude.{Ok}
+use Rattle.refusals.specs.declared.Refusal.TheVariants.{GraphForm, PlanOrOffset, Store}
 use Rattle.planning.specs.Plan.{PlanCall, plan_report, no_plan, plan_call}
 use Rattle.planning.specs.Report.{planning_refusal, gained}
 
@@ -40,14 +41,14 @@ plan-report graph buffer store =
     made : PlanCall
     made =
         record {
-          planning = record { answer = Planned (length all - store.count); store = grown store (needs base g) };
+          planning = record { answer = Ok (length all - store.count); store = grown store (needs base g) };
           buffer = plan_of base g store ++ drop (plan_size base g) buffer;
         }
 
     go : (fits short room : Bool)
-        → tells (cond (not fits) (no_plan 12 buffer store) (cond short (no_plan 14 buffer store) (cond (not room) (no_plan 15 buffer store) made)))
+        → tells (cond (not fits) (no_plan GraphForm buffer store) (cond short (no_plan PlanOrOffset buffer store) (cond (not room) (no_plan Store buffer store) made)))
         ≡ answering (lowest (on (not fits) 12 ∷ on short 14 ∷ on (not room) 15 ∷ [])) (length (drop store.count all) ∷ [])
     go false short room = refl
     go true true room = refl
     go true false false = refl
-    go true false true = ap (λ (n : ℕ). plan_report (Planned n)) (sym (length-drop store.count all))
+    go true false true = ap (λ (n : ℕ). plan_report (Ok n)) (sym (length-drop store.count all))

@@ -12,7 +12,7 @@ use Rattle.bits.specs.Bits.{bit}
 use Rattle.graph_rules.specs.Graph.{graph_from, graph_fits}
 use Rattle.classes.specs.Classes.{has}
 use Rattle.mask_store.specs.declared.MaskStore.{MaskStore}
-use Rattle.mask_store.specs.Layout.{table_size, table_masks, store_size, mask_of, entry_place}
+use Rattle.mask_store.specs.Layout.{mask_of, entry_place}
 use Rattle.mask_store.specs.Masks.{held_with, takes, grown}
 use Rattle.mask_store.proofs.GrownBits.{grown-bits}
 use Rattle.mask_store.proofs.Several.{takes-few}

@@ -1,32 +1,39 @@
-// Planning a graph on a mask store: by value, on a store that is lent and grows in the call, and by a loan made for the call.
-ghost use Rattle.std.specs.Prelude.{◌≡◌};
+// Planning a graph on a mask store: by value, on a store that is lent and grows in the call, and by a loan made for the call. Each is the one before
+// with another hold on the store, and says so in a line or two.
+ghost use Rattle.std.specs.Prelude.{◌≡◌, ◌-◌, ◌≤◌, IfOk, MatchResult};
 ghost use Rattle.plan_rules.specs.Plan.{base};
-ghost use Rattle.planning.specs.Plan.{refused_with, plan_call};
+ghost use Rattle.planning.specs.Plan.{no_plan, planned, plan_call};
 
 use mask_store::MaskStore;
+use plan_rows::layout::ROW;
+use plan_rows::masks::Masks;
+use refusals::Refusal;
+use words::graph::Graph;
 
-// How many classes the store gained, or a refusal.
-#[derive(Clone, Copy)]
-pub enum PlanAnswer {
-    Planned(usize),
-    Refused(u8),
-}
-
-// The answer, and the store after it.
+// How many classes the store gained, or a refusal; and the store after it.
 #[derive(Clone, Copy)]
 pub struct Planning {
-    pub answer: PlanAnswer,
+    pub answer: Result<usize, Refusal>,
     pub store: MaskStore,
 }
 
-// A refusal, and the store unchanged.
-fn refused(number: u8, store: MaskStore) -> Planning
-    ensures { result ≡ refused_with number store }
+// The plan of the graph, three words a state, in the front of the buffer, and the store with the masks that it needs; or 12, 14 or 15, and the buffer
+// unchanged.
+fn grown_by_plan(graph: &[u16], out: &mut [u16], store: MaskStore) -> Result<MaskStore, Refusal>
+    ensures made { MatchResult result (λ after. plan_call base graph.now out.old store ≡ planned store after out.new) (λ refusal. plan_call base graph.now out.old store ≡ no_plan refusal out.new store) }
+    ensures more { IfOk result (λ after. store.count ≤ after.count) }
 {
-    Planning {
-        answer: PlanAnswer::Refused(number),
-        store: store,
+    let legal = Graph::new(graph)?;
+    if out.len() < ROW * legal.states() {
+        return Err(Refusal::PlanOrOffset);
     }
+    let after = plan_rows::needs::grow(legal, store)?;
+    let masks = Masks {
+        tables: &after.tables,
+        count: after.count,
+    };
+    plan_rows::rows::write(legal, out, masks);
+    Ok(after)
 }
 
 // The plan of the graph, three words a state, in the front of the buffer, and the store with the masks that it needs; or 12, 14 or 15, and buffer
@@ -34,30 +41,20 @@ fn refused(number: u8, store: MaskStore) -> Planning
 pub fn plan_by_value(graph: &[u16], out: &mut [u16], store: MaskStore) -> Planning
     ensures { (result ≡ (plan_call base graph.now out.old store).planning) × (out.new ≡ (plan_call base graph.now out.old store).buffer) }
 {
-    if !words::graph::fits(graph) {
-        return refused(12, store);
-    }
-    let states = words::graph::states(graph);
-    if out.len() < plan_rows::layout::ROW * states {
-        return refused(14, store);
-    }
-    let grown = plan_rows::needs::grow(graph, store);
-    if !grown.taken {
-        return refused(15, store);
-    }
-    let after = grown.store;
-    let tables = after.tables;
-    let count = after.count;
-    plan_rows::rows::write(graph, out, &tables, count);
-    let before = store.count;
-    Planning {
-        answer: PlanAnswer::Planned(count - before),
-        store: after,
+    match grown_by_plan(graph, out, store) {
+        Ok(after) => Planning {
+            answer: Ok(after.count - store.count),
+            store: after,
+        },
+        Err(refusal) => Planning {
+            answer: Err(refusal),
+            store,
+        },
     }
 }
 
 // The same on a store that is lent, and grows in the call.
-pub fn plan(graph: &[u16], out: &mut [u16], store: &mut MaskStore) -> PlanAnswer
+pub fn plan(graph: &[u16], out: &mut [u16], store: &mut MaskStore) -> Result<usize, Refusal>
     ensures { (result ≡ (plan_call base graph.now out.old store.old).planning.answer) × ((store.new ≡ (plan_call base graph.now out.old store.old).planning.store) × (out.new ≡ (plan_call base graph.now out.old store.old).buffer)) }
 {
     let planning = plan_by_value(graph, out, *store);
@@ -72,7 +69,7 @@ pub fn plan_by_loan(graph: &[u16], out: &mut [u16], store: MaskStore) -> Plannin
     let mut lent = store;
     let answer = plan(graph, out, &mut lent);
     Planning {
-        answer: answer,
+        answer,
         store: lent,
     }
 }

@@ -3,12 +3,14 @@
 use mathlib.Core.Path.{◌≡◌, refl, sym, ap, ◌∙◌}
 use mathlib.Core.Bool.{Bool, true, false, cond, not}
 use mathlib.Core.List.{List, [], ◌∷◌}
-use Prim.Native.Nat.{ℕ, zero, suc, ◌/◌}
+use Prim.Native.Nat.{ℕ, zero, suc, ◌/◌, ◌<◌}
 use native.Mathlib.Omega.{arith}
 use borrow.Author.Tests.{ne_eqb}
 use lib.Dec.{eqb, ltb}
 use lib.ListN.{length}
-use Rattle.lists.specs.Report.{on, lowest, answering}
+use Rattle.refusals.specs.Refusals.{numbered}
+use Rattle.refusals.proofs.Numbers.{number-numbered}
+use Rattle.lists.specs.Report.{on, lowest, answering, refusing}
 use Rattle.lists.proofs.Reports.{lowest-one}
 use Rattle.graph_rules.specs.Graph.{Graph, graph_from, graph_fits}
 use Rattle.readings.specs.Answers.{read_report}
@@ -52,11 +54,22 @@ module _ (graph words : List ℕ) (store : MaskStore) where
       go true = plan-number
       go false = refl
 
+  run-small : run_refusal base graph words store < 17
+  unfolding run_refusal plan_refusal
+  run-small = go (graph_fits graph) (ltb (length words) (plan_size base g)) (takes store (needs base g)) (is_plan base g words store)
+    where
+      go : (fits short room own : Bool) → cond (not fits) 12 (cond short 14 (cond (not room) 15 (cond (not own) 14 0))) < 17
+      go false short room own = omega arith
+      go true true room own = omega arith
+      go true false false own = omega arith
+      go true false true false = omega arith
+      go true false true true = omega arith
+
   pub run-report : (text : List ℕ)
       → read_report (run_call base graph words store text) ≡ answering (run_number graph words store) (read_values (run base (graph_from graph) words store text))
   unfolding run_call
   run-report text =
-      refused-or-read (run_refusal base graph words store) (run base g words store text)
+      refused-or-read (run_refusal base graph words store) (run base g words store text) run-small
       ∙ ap (λ (n : ℕ). answering n (read_values (run base g words store text))) run-number
 
   -- ---- the planned scan
@@ -93,19 +106,31 @@ module _ (graph words : List ℕ) (store : MaskStore) where
         go true false false true true true = refl
         go true false false true true false = refl
 
+    planned-small : planned_refusal base graph words store text scan < 17
+    unfolding planned_refusal plan_refusal
+    planned-small = go (graph_fits graph) (past text scan.place) (ltb (length words) (plan_size base g)) (takes store (needs base g)) (is_plan base g words store)
+      where
+        go : (fits far short room own : Bool) → cond (not fits) 12 (cond far 14 (cond short 14 (cond (not room) 15 (cond (not own) 14 0)))) < 17
+        go false far short room own = omega arith
+        go true true short room own = omega arith
+        go true false true room own = omega arith
+        go true false false false own = omega arith
+        go true false false true false = omega arith
+        go true false false true true = omega arith
+
     pub planned-report : (buffer : List ℕ)
         → list_report (planned_list base graph words store text scan buffer).listed.answer
         ≡ answering (planned_number graph words store text scan) (length (list_for (graph_from graph) text (length buffer / entry_size) scan).entries ∷ [])
     unfolding planned_list
     planned-report buffer =
-        go (planned_refusal base graph words store text scan) (scan-list-report graph text scan buffer)
+        go (planned_refusal base graph words store text scan) planned-small (scan-list-report graph text scan buffer)
         ∙ ap (λ (n : ℕ). answering n (count ∷ [])) planned-number
       where
         count : ℕ
         count = length (list_for g text (length buffer / entry_size) scan).entries
 
-        go : (n : ℕ) → list_tells (scan_list graph text scan buffer) ≡ answering (scan_refusal graph text scan) (count ∷ [])
-            → list_tells (elim (eqb n 0) [ true ↦ scan_list graph text scan buffer | false ↦ no_list n scan buffer ])
+        go : (n : ℕ) → n < 17 → list_tells (scan_list graph text scan buffer) ≡ answering (scan_refusal graph text scan) (count ∷ [])
+            → list_tells (elim (eqb n 0) [ true ↦ scan_list graph text scan buffer | false ↦ no_list (numbered n) scan buffer ])
             ≡ answering (lowest (n ∷ scan_refusal graph text scan ∷ [])) (count ∷ [])
-        go zero e = e ∙ ap (λ (m : ℕ). answering m (count ∷ [])) (sym (lowest-one (scan_refusal graph text scan)))
-        go (suc n) e = rw (ne_eqb (suc n) 0 (λ z. omega arith))
+        go zero h e = e ∙ ap (λ (m : ℕ). answering m (count ∷ [])) (sym (lowest-one (scan_refusal graph text scan)))
+        go (suc n) h e = rw (ne_eqb (suc n) 0 (λ z. omega arith)) (ap (λ (m : ℕ). refusing m 1) (number-numbered n (omega arith)))

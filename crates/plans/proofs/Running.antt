@@ -1,8 +1,8 @@
 -- Which plan words a run takes, and what it answers then. Assumes nothing.
-use mathlib.Core.Path.{◌≡◌, sym, ap, ◌∙◌}
+use Rattle.std.specs.Prelude.{Some, None}
+use mathlib.Core.Path.{◌≡◌, refl, sym, ap, ◌∙◌}
 use mathlib.Core.Bool.{Bool, true, false, ◌&&◌}
 use mathlib.Core.List.{List}
-use mathlib.Core.Option.{none, some}
 use mathlib.Core.Logic.{◌⊎◌, inl, inr, ⊎_elim}
 use Prim.Native.Nat.{ℕ, ◌+◌, ◌≤◌, ◌<◌}
 use native.Mathlib.Omega.{arith}
@@ -12,6 +12,7 @@ use lib.ListN.{length, take, drop}
 use Rattle.lists.specs.Lists.{eq_list}
 use Rattle.lists.proofs.Bools.{Is, is, yes-is, no-is, and_both, and_intro, and-right-false, or_cases, or_left, or_right}
 use Rattle.lists.proofs.Elements.{eqb-sound, list-sound}
+use Rattle.lists.proofs.Flattened.{all_weaker}
 use Rattle.graph_rules.specs.Graph.{Graph, to, graph_from, graph_fits}
 use Rattle.graph_rules.specs.Read.{Reading}
 use Rattle.classes.specs.Classes.{Class}
@@ -19,19 +20,45 @@ use Rattle.mask_store.specs.declared.MaskStore.{MaskStore}
 use Rattle.mask_store.specs.Layout.{most_masks}
 use Rattle.mask_store.specs.Masks.{held, held_with, grown, takes}
 use Rattle.mask_store.proofs.Several.{takes-few, count-few}
-use Rattle.plan_rules.specs.Plan.{base, table_word, needs, plan_words, plan_of, plan_size}
+use Rattle.plan_rules.specs.Plan.{base, table_word, needs, plan_of, plan_words, plan_size}
 use Rattle.plan_rules.specs.Run.{self_of, edge_held, row_held, rows_of, run_from, run, is_plan}
-use Rattle.lists.proofs.Flattened.{all_weaker}
+use Rattle.runner.specs.Prepared.{PlanOn}
 use Rattle.graph_rules.proofs.Flat.{from-length}
 use Rattle.graph_rules.proofs.Taken.{taken-root}
 use Rattle.words.proofs.GraphWords.{from-edge}
 use Rattle.plan_rules.proofs.RunIsWalk.{base-sane, plan-runs}
 use Rattle.plan_rules.proofs.Decided.{plan-decided}
-use Rattle.runner.specs.Prepared.{PlanOn}
-use Rattle.readings.specs.declared.read.Read.TheVariants.{Refused}
-use Rattle.readings.specs.Answers.{reading}
+use Rattle.std.specs.Prelude.{Result, Ok, Err, IsErrAnd}
+use Rattle.std.proofs.lemmas.Result.{err_from_is_err_and}
+use Prim.Native.Nat.{zero, suc}
+use Rattle.refusals.specs.declared.Refusal.{Refusal}
+use Rattle.refusals.specs.declared.Refusal.TheVariants.{GraphForm, Store}
+use Rattle.refusals.specs.Refusals.{numbered, answered}
+use Rattle.plan_rows.specs.Needs.{grown_by}
+use Rattle.plan_rows.proofs.Growing.{was-refused, by-refused}
 use Rattle.plans.specs.Run.{plan_refusal, run_refusal, run_call, RunsAlike}
 use Rattle.planning.proofs.Planning.{grown-count}
+
+-- ---- what a `?` hands on, and a refusal by its number
+
+pub passed : {A : Type 0} (r : Result A Refusal) {x : Refusal} → IsErrAnd r (λ y. y ≡ x) → r ≡ Err x
+passed r h = let p = err_from_is_err_and r h in p.1 ∙ ap (λ y. Err y) p.2
+
+-- what a call answers that has nothing to tell but that it is not refused
+abbrev pub done : Unit {0}
+done = tt
+
+pub answered-err : {A B : Type 0} (n : ℕ) (a : A) (b : B) {x : Refusal} → answered n a ≡ Err x → answered n b ≡ Err x
+answered-err zero a b e = cc
+answered-err (suc n) a b {x} e = let q : numbered (suc n) ≡ x = cc in ap (λ y. Err y) q
+
+pub answered-ok : {A : Type 0} (n : ℕ) (a : A) {b : A} → answered n a ≡ Ok b → n ≡ 0
+answered-ok zero a e = refl
+answered-ok (suc n) a e = cc
+
+pub refused-not : {A : Type 0} (n : ℕ) (a : A) {x : Refusal} → answered n a ≡ Err x → (n ≡ 0 → ⊥) × (numbered n ≡ x)
+refused-not zero a e = cc
+refused-not (suc n) a e = (λ z. omega arith, cc)
 
 -- ---- 14, 15, 14 or 0, as they are decided
 
@@ -43,14 +70,21 @@ module _ (g : Graph) (words : List ℕ) (store : MaskStore) where
   abbrev begun : Bool
   begun = eq_list eqb (take (plan_size base g) words) (plan_words base (held store) g)
 
+  -- a refusal, as it is answered
+  pub told : {n : ℕ} → plan_refusal base g words store ≡ n → answered n done ≡ answered (plan_refusal base g words store) done
+  told e = ap (λ (m : ℕ). answered m done) (sym e)
+
   pub plan-short : length words < plan_size base g → plan_refusal base g words store ≡ 14
   unfolding plan_refusal
   plan-short h = rw (lt-ltb (length words) (plan_size base g) h)
 
   module _ (long : plan_size base g ≤ length words) where
-    pub plan-full : takes store needed ≡ false → plan_refusal base g words store ≡ 15
+    pub plan-full : {x : Refusal} → grown_by store needed ≡ Err x → Err x ≡ answered (plan_refusal base g words store) done
     unfolding plan_refusal
-    plan-full t = rw (le-ltb (length words) (plan_size base g) long, t)
+    plan-full {x} e =
+        let t = was-refused store needed e in
+        let q : x ≡ Store = cc (by-refused store needed t) in
+        rw (le-ltb (length words) (plan_size base g) long, t) (ap (λ (y : Refusal). Err y) q)
 
     module _ (t : takes store needed ≡ true) (after : MaskStore) (e : after ≡ grown store needed) where
       decided : is_plan base g words store ≡ (eqb after.count store.count && begun)
@@ -119,7 +153,7 @@ module _ (g : Graph) (words : List ℕ) (store : MaskStore) (t : Taken g words s
 
 -- of well-formed graph words (refusal 12) a target is a state, and so is the root, or there are none
 module _ (graph : List ℕ) (fits : graph_fits graph ≡ true) where
-  pub targets-closed : (s c u : ℕ) → to (graph_from graph) s c ≡ some u → u < length (graph_from graph).states
+  pub targets-closed : (s c u : ℕ) → to (graph_from graph) s c ≡ Some u → u < length (graph_from graph).states
   targets-closed s c u e = rw (from-length graph) (from-edge graph fits s c u e).3
 
   pub root-state : ((graph_from graph).root < length (graph_from graph).states) ⊎ (length (graph_from graph).states ≡ 0)
@@ -135,28 +169,36 @@ runs-alike graph words store fits t text bytes =
 -- ---- the call
 
 module _ (graph words : List ℕ) (store : MaskStore) where
-  pub run-unfit : graph_fits graph ≡ false → run_refusal base graph words store ≡ 12
+  run-unfit : graph_fits graph ≡ false → run_refusal base graph words store ≡ 12
   unfolding run_refusal
   run-unfit e = rw e
 
-  pub run_fits : graph_fits graph ≡ true → run_refusal base graph words store ≡ plan_refusal base (graph_from graph) words store
+  run_fits : graph_fits graph ≡ true → run_refusal base graph words store ≡ plan_refusal base (graph_from graph) words store
   unfolding run_refusal
   run_fits e = rw e
 
-  pub run-taken : run_refusal base graph words store ≡ 0 → (graph_fits graph ≡ true) × Taken (graph_from graph) words store
-  unfolding run_refusal
-  run-taken z = go (is (graph_fits graph))
-    where
-      go : Is (graph_fits graph) → (graph_fits graph ≡ true) × Taken (graph_from graph) words store
-      go (no-is a) = absurd (let n : 12 ≡ 0 = rw a at z in omega arith)
-      go (yes-is a) = (a, taken (graph_from graph) words store (sym (run_fits a) ∙ z))
+  module _ (text : List ℕ) where
+    abbrev pub Answers : Result Reading Refusal → Type 0
+    Answers r = r ≡ run_call base graph words store text
 
-  module _ (text : List ℕ) (no : ℕ) (e : no ≡ run_refusal base graph words store) where
-    pub run-refused : (no ≡ 0 → ⊥) → run_call base graph words store text ≡ Refused no
+    pub run-twelve : {x : Refusal} → x ≡ GraphForm → graph_fits graph ≡ false → Answers (Err x)
     unfolding run_call
-    run-refused n = rw (ne_eqb (run_refusal base graph words store) 0 (λ q. n (e ∙ q)), run_call) (ap (λ (x : ℕ). Refused x) (sym e))
+    run-twelve {x} e f = ap (λ (y : Refusal). Err y) e ∙ ap (λ (n : ℕ). answered n (run base (graph_from graph) words store text)) (sym (run-unfit f))
 
-    pub run-answers : no ≡ 0 → (r : Reading) → r ≡ run_from (graph_from graph) (rows_of base (graph_from graph) words) store.tables (graph_from graph).root 0 none text
-        → run_call base graph words store text ≡ reading r
-    unfolding run_call run
-    run-answers z r q = rw (eq-eqb (run_refusal base graph words store) 0 (sym e ∙ z), run_call) (ap reading (sym q))
+    -- the graph is read by a view of words w
+    module _ (f : graph_fits graph ≡ true) {w : List ℕ} (same : w ≡ graph) where
+      pub run-refused : {r : Result (Unit {0}) Refusal} {x : Refusal} → r ≡ answered (plan_refusal base (graph_from w) words store) done → r ≡ Err x → Answers (Err x)
+      unfolding run_call
+      run-refused {r} {x} q e =
+          let p : answered (plan_refusal base (graph_from graph) words store) done ≡ Err x = ap (λ (v : List ℕ). answered (plan_refusal base (graph_from v) words store) done) (sym same) ∙ sym q ∙ e in
+          sym
+          (ap (λ (n : ℕ). answered n (run base (graph_from graph) words store text)) (run_fits f)
+          ∙ answered-err (plan_refusal base (graph_from graph) words store) done (run base (graph_from graph) words store text) p)
+
+      pub run-answers : plan_refusal base (graph_from w) words store ≡ 0 → {r : Reading} → r ≡ run_from (graph_from w) (rows_of base (graph_from w) words) store.tables (graph_from w).root 0 None text
+          → Answers (Ok r)
+      unfolding run_call run
+      run-answers z q =
+          let zero-there : plan_refusal base (graph_from graph) words store ≡ 0 = ap (λ (v : List ℕ). plan_refusal base (graph_from v) words store) (sym same) ∙ z in
+          ap (λ (x : Reading). Ok x) (q ∙ ap (λ (v : List ℕ). run_from (graph_from v) (rows_of base (graph_from v) words) store.tables (graph_from v).root 0 None text) same)
+          ∙ ap (λ (n : ℕ). answered n (run_from (graph_from graph) (rows_of base (graph_from graph) words) store.tables (graph_from graph).root 0 None text)) (sym (run_fits f ∙ zero-there))

@@ -1,11 +1,9 @@
 -- The call that runs a text by a plan, and the one that scans a text by it (docs/RULES.md, "Planned run"; refusals 12, 14, 15, 16). Definitions only.
-use Rattle.std.specs.Prelude.{◌≡◌, true, false, cond, not, List, ℕ, eqb, ltb, length}
-use Rattle.std.proofs.Math.Option.{none}
+use Rattle.std.specs.Prelude.{◌≡◌, true, false, cond, not, List, ℕ, eqb, ltb, length, None, Result}
 use Rattle.graph_rules.specs.Graph.{Graph, graph_from, graph_fits}
-use Rattle.graph_rules.specs.Read.{Bytes, read_graph}
-use Rattle.readings.specs.declared.read.Read.{Read}
-use Rattle.readings.specs.declared.read.Read.TheVariants.{Refused}
-use Rattle.readings.specs.Answers.{reading}
+use Rattle.graph_rules.specs.Read.{Bytes, Reading, read_graph}
+use Rattle.refusals.specs.declared.Refusal.{Refusal}
+use Rattle.refusals.specs.Refusals.{numbered, answered}
 use Rattle.mask_store.specs.declared.MaskStore.{MaskStore}
 use Rattle.mask_store.specs.Masks.{takes}
 use Rattle.plan_rules.specs.Plan.{Settings, base, needs, plan_size}
@@ -28,12 +26,8 @@ run_refusal set graph words store = cond (not (graph_fits graph)) 12 (plan_refus
 
 -- ---- `run`: graph words, plan words, store, text
 
-unfoldable pub run_call : Settings → List ℕ → List ℕ → MaskStore → List ℕ → Read
-run_call set graph words store text =
-    elim (eqb (run_refusal set graph words store) 0) [
-      | true ↦ reading (run set (graph_from graph) words store text)
-      | false ↦ Refused (run_refusal set graph words store)
-    ]
+unfoldable pub run_call : Settings → List ℕ → List ℕ → MaskStore → List ℕ → Result Reading Refusal
+run_call set graph words store text = answered (run_refusal set graph words store) (run set (graph_from graph) words store text)
 
 -- ---- `scan_planned`: what `scan_list` answers. "Lowest number first": an offset past the text, a 14, comes before 15, and an ended scan, 16, last.
 
@@ -45,9 +39,9 @@ unfoldable pub planned_list : Settings → List ℕ → List ℕ → MaskStore �
 planned_list set graph words store text scan buffer =
     elim (eqb (planned_refusal set graph words store text scan) 0) [
       | true ↦ scan_list graph text scan buffer
-      | false ↦ no_list (planned_refusal set graph words store text scan) scan buffer
+      | false ↦ no_list (numbered (planned_refusal set graph words store text scan)) scan buffer
     ]
 
 -- plan words by which every text is run as it is walked, on these tables
 abbrev pub RunsAlike : Graph → List ℕ → List ℕ → Type 0
-RunsAlike g words tables = (text : List ℕ) → Bytes text → run_from g (rows_of base g words) tables g.root 0 none text ≡ read_graph g text
+RunsAlike g words tables = (text : List ℕ) → Bytes text → run_from g (rows_of base g words) tables g.root 0 None text ≡ read_graph g text

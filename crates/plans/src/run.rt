@@ -1,62 +1,78 @@
 // A text run by the plan of a graph.
-ghost use Rattle.std.specs.Prelude.{◌≡◌, true};
-ghost use Rattle.graph_rules.specs.Graph.{graph_fits, graph_from};
+ghost use Rattle.std.specs.Prelude.{◌≡◌, length};
+ghost use Rattle.refusals.specs.Refusals.{answered};
+ghost use Rattle.graph_rules.specs.Graph.{graph_from};
 ghost use Rattle.plan_rules.specs.Plan.{base};
-ghost use Rattle.plans.specs.Run.{plan_refusal, run_refusal, run_call};
+ghost use Rattle.runner.specs.Prepared.{edges_size, Prepared};
+ghost use Rattle.plans.specs.Run.{plan_refusal, run_call};
 
+use graph_rules::Found;
 use mask_store::MaskStore;
-use readings::read::Read;
-use runner::prepare::{ENDS, TESTS, prepare};
+use plan_rows::layout::ROW;
+use plan_rows::masks::Masks;
+use refusals::Refusal;
+use runner::edge::{Edge, NO_EDGE};
+use runner::planned::Planned;
+use runner::prepare::{ENDS, prepare};
+use words::graph::Graph;
 
-// Why the words are no plan of well-formed graph words (refusal 12), on this store: 14 or 15; or 0. The plan of graph and store names no mask that the store lacks
-// exactly where the store lacks no class that the graph needs.
-pub(crate) fn refusal(graph: &[u16], plan: &[u16], store: MaskStore) -> u8
-    requires { graph_fits graph.now ≡ true }
-    ensures { result ≡ plan_refusal base (graph_from graph.now) plan.now store }
+// Whether the words are a plan of the graph on this store: if not, 14 or 15. The plan of graph and store names no mask that the store lacks exactly where
+// the store lacks no class that the graph needs.
+pub(crate) fn check_plan(graph: Graph<'_>, plan: &[u16], store: &MaskStore) -> Result<(), Refusal>
+    ensures { result ≡ answered (plan_refusal base (graph_from graph.entry.words.now) plan.now store.now) tt }
 {
-    let states = words::graph::states(graph);
-    if plan.len() < plan_rows::layout::ROW * states {
-        return 14;
+    if plan.len() < ROW * graph.states() {
+        return Err(Refusal::PlanOrOffset);
     }
-    let grown = plan_rows::needs::grow(graph, store);
-    if !grown.taken {
-        return 15;
+    let after = plan_rows::needs::grow(graph, *store)?;
+    if after.count != store.count {
+        return Err(Refusal::PlanOrOffset);
     }
-    let after = grown.store;
-    let needed = after.count;
-    let count = store.count;
-    if needed != count {
-        return 14;
-    }
-    let tables = store.tables;
-    if plan_rows::rows::agrees(graph, plan, &tables, count) {
-        0
+    let masks = Masks {
+        tables: &store.tables,
+        count: store.count,
+    };
+    if plan_rows::rows::agrees(graph, plan, masks) {
+        Ok(())
     } else {
-        14
+        Err(Refusal::PlanOrOffset)
     }
 }
 
-// The same of any graph words: 12, 14 or 15; or 0.
-fn run_refusal(graph: &[u16], plan: &[u16], store: MaskStore) -> u8
-    ensures { result ≡ run_refusal base graph.now plan.now store }
+// A graph with its plan on a store that `check_plan` has taken, and the edges that `prepare` has made, ready to run texts.
+pub(crate) fn ready<'a>(
+    graph: Graph<'a>,
+    plan: &'a [u16],
+    store: &'a MaskStore,
+    edges: &'a [Edge],
+) -> Planned<'a>
+    requires plan { plan_refusal base (graph_from graph.words.now) plan.now store.now ≡ 0 }
+    requires size { length edges.now ≡ edges_size }
+    requires prepared { Prepared (graph_from graph.words.now) edges.now }
+    ensures graph { result.graph.words.now ≡ graph.entry.words.now }
+    ensures plan { result.plan.now ≡ plan.now }
+    ensures tables { result.tables.now ≡ store.now.tables }
 {
-    if !words::graph::fits(graph) {
-        return 12;
+    Planned {
+        graph,
+        plan,
+        tables: &store.tables,
+        edges,
     }
-    refusal(graph, plan, store)
 }
 
 // The reading of a text by graph words, plan words and a store; or 12, 14 or 15.
-pub fn run(graph: &[u16], plan: &[u16], store: MaskStore, text: &[u8]) -> Read
+pub fn run(
+    graph: &[u16],
+    plan: &[u16],
+    store: MaskStore,
+    text: &[u8],
+) -> Result<Option<Found>, Refusal>
     ensures { result ≡ run_call base graph.now plan.now store text.now }
 {
-    let no = run_refusal(graph, plan, store);
-    if no != 0 {
-        return Read::Refused(no);
-    }
-    let mut ends = [0u16; ENDS];
-    let mut tests = [0u8; TESTS];
-    prepare(graph, &mut ends, &mut tests);
-    let tables = store.tables;
-    readings::read::answer(runner::run::run(graph, plan, &tables, &ends, &tests, text))
+    let legal = Graph::new(graph)?;
+    check_plan(legal, plan, &store)?;
+    let mut edges = [NO_EDGE; ENDS];
+    prepare(legal, &mut edges);
+    Ok(ready(legal, plan, &store, &edges).run(text))
 }

@@ -5,10 +5,12 @@ use mathlib.Core.List.{List, [], ◌∷◌, ◌++◌, flat_map, append_assoc}
 use Prim.Native.Nat.{ℕ, zero, suc, ◌+◌, ◌-◌, ◌*◌, ◌≤◌, ◌<◌}
 use native.Mathlib.Omega.{arith}
 use borrow.Author.Tests.{le-leb}
-use lib.ListN.{length, get_or, drop, length-append, length-drop}
+use lib.ListN.{length, get_or, take, drop, length-append, length-drop}
 use lib.Seq.{get_or-drop, drop_at}
 use Rattle.lists.proofs.Bools.{and_both, and_intro}
-use Rattle.texts.specs.Text.{bytes}
+use Rattle.std.proofs.lemmas.List.{take_rest}
+use Rattle.texts.specs.Text.{bytes, Wrote, Counts}
+use Rattle.texts.proofs.Writing.{Underway, goes, underway-as, part-counts}
 use Rattle.graph_rules.specs.Build.{Error, no_universal_start, empty_match, disambiguation, error_words}
 use Rattle.display.specs.Display.{line_of, conflict_line}
 use Rattle.display.specs.Answers.{error_fits}
@@ -87,3 +89,21 @@ listed-lines (e ∷ es) rest =
     let more = flat_map error_words es ++ rest in
     rw (append_assoc (error_words e) (flat_map error_words es) rest)
     (rw (line-of-error e more, error-later e more, listed-lines es rest))
+
+-- ---- the first of k conflicts is written, and the words after it are left
+
+module _ (k m : ℕ) (w : List ℕ) (some : 0 < k) (fewer : m ≡ k - 1) where
+  left-over : take (length w - (2 + get_or w 1 0)) (drop (2 + get_or w 1 0) w) ≡ later w
+  left-over = take_rest w (2 + get_or w 1 0)
+
+  pub rest-fits : errors_fit k w ≡ true → errors_fit m (take (length w - (2 + get_or w 1 0)) (drop (2 + get_or w 1 0) w)) ≡ true
+  rest-fits f = rw (left-over, fewer) (fit_next k w some f).1
+
+  pub rest-goes : {found total mid out : List ℕ} {at next end : ℕ} → Underway found at total (error_lines k w) mid next → Wrote mid next (line (line_of w)) out end
+      → Underway found at total (error_lines m (take (length w - (2 + get_or w 1 0)) (drop (2 + get_or w 1 0) w))) out end
+  rest-goes u a =
+      underway-as (let e : error_lines (k - 1) (later w) ≡ error_lines m (take (length w - (2 + get_or w 1 0)) (drop (2 + get_or w 1 0) w)) = rw (left-over, fewer) in e)
+      (goes (line (line_of w)) (error_lines (k - 1) (later w)) (underway-as (lines_next k w some) u) a)
+
+  pub line-counts : {found total mid : List ℕ} {at next : ℕ} → Underway found at total (error_lines k w) mid next → Counts at total → Counts next (line (line_of w))
+  line-counts u h = part-counts (line (line_of w)) (error_lines (k - 1) (later w)) (underway-as (lines_next k w some) u) h

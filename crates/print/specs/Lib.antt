@@ -1,3 +1,4 @@
 pub mod Print
 pub mod Parts
 pub mod Report
+pub mod Shown

@@ -1,8 +1,9 @@
 -- The parts of what is printed, from the words in the two buffers: the inner functions' contracts. Definitions only.
-use Rattle.std.specs.Prelude.{◌≡◌, Bool, true, ◌&&◌, List, [], ◌++◌, ℕ, zero, suc, ◌+◌, get_or, drop}
+use Rattle.std.specs.Prelude.{◌≡◌, Bool, true, ◌&&◌, List, [], ◌++◌, ℕ, zero, suc, ◌+◌, get_or, drop, Result, Ok, Err}
 use Rattle.graph_rules.specs.Graph.{graph_from, graph_fits}
-use Rattle.graph.specs.declared.new.BuildAnswer.{BuildAnswer}
-use Rattle.graph.specs.declared.new.BuildAnswer.TheVariants.{Built as Made, Refused}
+use Rattle.refusals.specs.Refusals.{number}
+use Rattle.refusals.specs.declared.Refusal.{Refusal}
+use Rattle.graph.specs.declared.new.Counts.{Counts}
 use Rattle.display.specs.Display.{displayed, line_of}
 use Rattle.display.specs.Answers.{error_fits}
 use Rattle.print.specs.Print.{line, refused_line}
@@ -26,15 +27,15 @@ unfoldable pub words_text : List ℕ → List ℕ → ℕ → List ℕ
 words_text graph errors k = line (displayed (graph_from graph)) ++ error_lines k errors
 
 -- of what a build answers, and the words it leaves
-abbrev pub answer_text : BuildAnswer → List ℕ → List ℕ → List ℕ
-answer_text (Made c) graph errors = words_text graph errors c.errors
-answer_text (Refused n) graph errors = refused_line n
+abbrev pub answer_text : Result Counts Refusal → List ℕ → List ℕ → List ℕ
+answer_text (Ok c) graph errors = words_text graph errors c.errors
+answer_text (Err r) graph errors = refused_line (number r)
 
 -- a build that was not refused leaves a graph, and as many conflicts as it says
 pub record Held (graph errors : List ℕ) (k : ℕ) : Type 0 where
   pub taken : graph_fits graph ≡ true
   pub listed : errors_fit k errors ≡ true
 
-abbrev pub Holds : BuildAnswer → List ℕ → List ℕ → Type 0
-Holds (Made c) graph errors = Held graph errors c.errors
-Holds (Refused n) graph errors = Unit {0}
+abbrev pub Holds : Result Counts Refusal → List ℕ → List ℕ → Type 0
+Holds (Ok c) graph errors = Held graph errors c.errors
+Holds (Err r) graph errors = Unit {0}

@@ -1,12 +1,13 @@
 -- What the graph printer prints for an image: all its bytes, for every image (docs/FORMATS.md, "Text of a graph"). Definitions only.
 use mathlib.Core.List.{List, ◌++◌, flat_map}
-use Rattle.std.specs.Prelude.{ℕ, replicate}
+use Rattle.std.specs.Prelude.{ℕ, replicate, Result, Ok, Err}
 use Rattle.texts.specs.Text.{bytes, decimal}
 use Rattle.graph_rules.specs.Table.{table_of}
 use Rattle.graph_rules.specs.Build.{Built, build}
 use Rattle.graph.specs.New.{words_of, image_of}
-use Rattle.graph.specs.declared.new.BuildAnswer.{BuildAnswer}
-use Rattle.graph.specs.declared.new.BuildAnswer.TheVariants.{Built as Made, Refused}
+use Rattle.refusals.specs.Refusals.{number}
+use Rattle.refusals.specs.declared.Refusal.{Refusal}
+use Rattle.graph.specs.declared.new.Counts.{Counts}
 use Rattle.display.specs.Display.{displayed, conflict_line}
 use Rattle.display.specs.Answers.{Call, written}
 
@@ -29,9 +30,9 @@ unfoldable pub refused_line : ℕ → List ℕ
 refused_line n = line (bytes "refused " ++ decimal n)
 
 -- by what a build answers
-abbrev pub printed_by : BuildAnswer → Built → List ℕ
-printed_by (Made c) b = printed_build b
-printed_by (Refused n) b = refused_line n
+abbrev pub printed_by : Result Counts Refusal → Built → List ℕ
+printed_by (Ok c) b = printed_build b
+printed_by (Err r) b = refused_line (number r)
 
 -- all that is printed for an image
 unfoldable pub printed : List ℕ → List ℕ

@@ -2,16 +2,17 @@
 use Rattle.std.proofs.Common.{◌≡◌, ℕ, ◌≤◌, List, ◌++◌, length, take, drop, arith, ap, ◌∙◌, le_refl, take_all}
 use borrow.Author.Tests.{le-leb}
 use lib.Seq.{take-append-le}
-use Rattle.display.specs.declared.Shown.TheVariants.{Bytes, Refused}
+use Rattle.std.specs.Prelude.{Result, Ok, Err}
+use Rattle.refusals.specs.declared.Refusal.{Refusal}
 use Rattle.display.specs.Answers.{written}
 use Rattle.print.specs.Print.{printed, print_call, most_printed}
 use Rattle.print.proofs.Rooms.{print-room}
 
-same_bytes : {m n : ℕ} → Bytes m ≡ Bytes n → m ≡ n
+same_bytes : {m n : ℕ} → ◌≡◌ {A = Result ℕ Refusal} (Ok m) (Ok n) → m ≡ n
 same_bytes e = cc
 
-not_refused : {m n : ℕ} → Refused m ≡ Bytes n → ⊥
-not_refused e = let z : ◌≡◌ {A = ℕ} 0 1 = cc in omega arith
+not_refused : {r : Refusal} {n : ℕ} → ◌≡◌ {A = Result ℕ Refusal} (Err r) (Ok n) → ⊥
+not_refused e = cc
 
 buffer_of : (text found : List ℕ) → length text ≤ length found → (written text found).buffer ≡ text ++ drop (length text) found
 unfolding written
@@ -27,15 +28,15 @@ module _ (image found : List ℕ) (most : length (printed image) ≤ most_printe
   fits : length (printed image) ≤ length found
   fits = omega (arith, most, room)
 
-  pub taken : (n : ℕ) → Refused n ≡ (print_call image found).answer → ⊥
-  taken n e = not_refused (e ∙ print-room image found fits)
+  pub taken : (r : Refusal) → Err r ≡ (print_call image found).answer → ⊥
+  taken r e = not_refused (e ∙ print-room image found fits)
 
-  size : (n : ℕ) → Bytes n ≡ (print_call image found).answer → n ≡ length (printed image)
+  size : (n : ℕ) → Ok n ≡ (print_call image found).answer → n ≡ length (printed image)
   size n e = same_bytes (e ∙ print-room image found fits)
 
-  pub in_front : (n : ℕ) (now : List ℕ) → Bytes n ≡ (print_call image found).answer → now ≡ (print_call image found).buffer → take n now ≡ printed image
+  pub in_front : (n : ℕ) (now : List ℕ) → Ok n ≡ (print_call image found).answer → now ≡ (print_call image found).buffer → take n now ≡ printed image
   unfolding print_call
   in_front n now e b = ap (λ k. take k now) (size n e) ∙ ap (take (length (printed image))) b ∙ front_written (printed image) found fits
 
-  pub within : (n : ℕ) (now : List ℕ) → Bytes n ≡ (print_call image found).answer → length now ≡ length found → n ≤ length now
+  pub within : (n : ℕ) (now : List ℕ) → Ok n ≡ (print_call image found).answer → length now ≡ length found → n ≤ length now
   within n now e same = omega (arith, size n e, fits, same)

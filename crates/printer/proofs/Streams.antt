@@ -11,24 +11,22 @@ use Rattle.std.specs.Io.KnownBytes.{Consumes, Appends, ReadConsumes, WriteAppend
 use Rattle.std.proofs.KnownBytes.{Consumes-nil, Consumes-kept, Consumes-trans, Appends-nil, Appends-kept, Appends-trans}
 use borrow.Rule.Slice.PartMut.{put_mid, post_of}
 use lib.Seq.{take-add, take-append-le}
-use Rattle.printer.specs.declared.moved.Step.TheVariants.{Moved}
-use Rattle.printer.specs.declared.input.Read.TheVariants.{Bytes}
 use Rattle.printer.specs.Streams.{Says, Took}
 
 module _ (a b c : Option (List ℕ)) where
-  read_step : (got : Result ℕ Error) (bs : List ℕ) (most n : ℕ) → length bs ≤ most → ReadsAtMost got bs → ReadConsumes b c got bs → Says most got (Moved n)
+  read_step : (got : Result ℕ Error) (bs : List ℕ) (most n : ℕ) → length bs ≤ most → ReadsAtMost got bs → ReadConsumes b c got bs → Says most got (Ok (Some n))
       → Consumes b c (take n bs)
   read_step (Ok m) bs most n room within took says = let same : m ≡ n = omega (arith, within, says.0) in subst (λ k. Consumes b c (take k bs)) same took.0
   read_step (Err e) bs most n room within took says = subst (λ k. Consumes b c (take k bs)) (sym says.0) (Consumes-kept b b c [] (Consumes-nil b) took)
 
-  write_step : (got : Result ℕ Error) (bs : List ℕ) (n : ℕ) → WritesAtMost got bs → WriteAppends b c got bs → Says (length bs) got (Moved n)
+  write_step : (got : Result ℕ Error) (bs : List ℕ) (n : ℕ) → WritesAtMost got bs → WriteAppends b c got bs → Says (length bs) got (Ok (Some n))
       → Appends b c (take n bs)
   write_step (Ok m) bs n within put says = let same : m ≡ n = omega (arith, within, says.0) in subst (λ k. Appends b c (take k bs)) same put
   write_step (Err e) bs n within put says = subst (λ k. Appends b c (take k bs)) (sym says.0) (Appends-kept b b c [] (Appends-nil b) put)
 
   -- a part of a buffer is read over from place i on
   pub reads_on : (got : Result ℕ Error) (xs bs : List ℕ) (i most n : ℕ) → i ≤ length xs → i + n ≤ length xs → length bs ≡ length xs - i → length bs ≤ most
-      → ReadsAtMost got bs → ReadConsumes b c got bs → Says most got (Moved n) → Consumes a b (take i xs)
+      → ReadsAtMost got bs → ReadConsumes b c got bs → Says most got (Ok (Some n)) → Consumes a b (take i xs)
       → Consumes a c (take (i + n) (put_mid i (length xs - i) xs bs))
   reads_on got xs bs i most n start end part room within took says before =
       let step = read_step got bs most n room within took says in
@@ -40,7 +38,7 @@ module _ (a b c : Option (List ℕ)) where
 
   -- a part of a text is written from place i on
   pub writes_on : (got : Result ℕ Error) (text : List ℕ) (i n : ℕ) → WritesAtMost got (take (length text - i) (drop i text))
-      → WriteAppends b c got (take (length text - i) (drop i text)) → Says (length (take (length text - i) (drop i text))) got (Moved n)
+      → WriteAppends b c got (take (length text - i) (drop i text)) → Says (length (take (length text - i) (drop i text))) got (Ok (Some n))
       → i + n ≤ length text → Appends a b (take i text) → Appends a c (take (i + n) text)
   writes_on got text i n within put says end before =
       let step = write_step got _ n within put says in
@@ -60,7 +58,7 @@ front most bs ys fits whole = by_room (leb most (length bs)) refl
         sym (ap (λ l. take most (bs ++ l)) none ∙ ap (take most) (append-nil bs) ∙ take_all most bs fits)
 
 -- what was read into a room of 65,537 bytes is the image that the input is
-pub image_read : (old new : Option (List ℕ)) (most n : ℕ) (buf : List ℕ) → length buf ≡ most → n ≤ most → Took old new (Bytes n) buf
+pub image_read : (old new : Option (List ℕ)) (most n : ℕ) (buf : List ℕ) → length buf ≡ most → n ≤ most → Took old new (Some n) buf
     → IfSome old (λ xs. take n buf ≡ take most xs)
 image_read None new most n buf room fits took = tt
 image_read (Some xs) None most n buf room fits took = absurd took.0

@@ -4,42 +4,32 @@ ghost use Rattle.printer.specs.Moved.{ReadWithin};
 ghost use Rattle.printer.specs.Streams.{Took};
 
 use crate::moved;
-use crate::moved::Step;
 use std::io;
 
-// How many bytes were read, to the end of the input or of the room; or a read has failed.
-#[derive(Clone, Copy)]
-pub enum Read {
-    Bytes(usize),
-    Broken,
-}
-
-// Reads until the input ends or the buffer is full, or tells on standard error why a read failed. A proved loop has to end, so the reads are counted, from a
-// number that no run uses up.
-pub fn read_all<R: io::Read>(rt: &impl Eprint, input: &mut R, buf: &mut [u8]) -> Read
+// Reads until the input ends or the buffer is full, and answers how many bytes; or tells on standard error why a read failed. A proved loop has to
+// end, so the reads are counted, to a number that no run uses up.
+pub fn read_all<R: io::Read>(rt: &impl Eprint, input: &mut R, buf: &mut [u8]) -> Option<usize>
     ensures within { ReadWithin (length buf.old) result }
     ensures bytes { Took (R.remaining input.old) (R.remaining input.new) result buf.new }
 {
     let mut done: usize = 0;
-    let mut reads = u64::MAX;
-    while reads > 0 {
-        reads -= 1;
+    for _ in 0..u64::MAX {
         if done == buf.len() {
-            return Read::Bytes(done);
+            return Some(done);
         }
         let got = io::Read::read(input, &mut buf[done..]);
         match moved::judged(got, &buf[done..]) {
-            Step::Moved(n) => {
+            Ok(Some(n)) => {
                 done += n;
             }
-            Step::End => {
-                return Read::Bytes(done);
+            Ok(None) => {
+                return Some(done);
             }
-            Step::Failed => {
-                moved::tell(rt, "printer: standard input", got);
-                return Read::Broken;
+            Err(e) => {
+                moved::tell(rt, "printer: standard input", e);
+                return None;
             }
         }
     }
-    Read::Broken
+    None
 }

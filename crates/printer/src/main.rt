@@ -10,8 +10,6 @@ ghost use Rattle.std.specs.Io.KnownBytes.{Appends};
 ghost use Rattle.print.specs.Print.{most_printed, printed};
 ghost use Rattle.printer.specs.Streams.{input_image};
 
-use display::Shown;
-use input::Read;
 use std::io;
 use std::io::Write;
 use std::process::ExitCode;
@@ -33,8 +31,8 @@ fn show<W: Write>(rt: &impl Eprint, out: &mut W, image: &[u8]) -> bool
 {
     let mut text = room();
     match print::print(image, &mut text) {
-        Shown::Bytes(n) => output::write_all(rt, out, &text[..n]),
-        Shown::Refused(_) => {
+        Ok(n) => output::write_all(rt, out, &text[..n]),
+        Err(_) => {
             // never, as is proved: the room suffices
             check::expect(false);
             false
@@ -49,8 +47,8 @@ fn run<R: io::Read, W: Write>(rt: &impl Eprint, input: &mut R, out: &mut W) -> b
 {
     let mut space = [0u8; 65537];
     match input::read_all(rt, input, &mut space) {
-        Read::Bytes(n) => show(rt, out, &space[..n]),
-        Read::Broken => false,
+        Some(n) => show(rt, out, &space[..n]),
+        None => false,
     }
 }
 

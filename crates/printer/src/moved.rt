@@ -6,34 +6,25 @@ ghost use Rattle.printer.specs.Streams.{Says};
 use std::io;
 use std::io::ErrorKind;
 
-// So many bytes were moved, none if a signal came before the first; the input has ended, or the output takes nothing; or the call has failed.
-#[derive(Clone, Copy)]
-pub enum Step {
-    Moved(usize),
-    End,
-    Failed,
-}
-
-// What a call has done, by its answer and the bytes that it was handed.
-pub fn judged(got: io::Result<usize>, buf: &[u8]) -> Step
+// What a call has done, by its answer and the bytes that it was handed: so many were moved, 0 if a signal came before the first; `None`: the input
+// has ended, or the output takes nothing; or why the call has failed.
+pub fn judged(got: io::Result<usize>, buf: &[u8]) -> io::Result<Option<usize>>
     ensures within { StepWithin (length buf.now) result }
     ensures says { Says (length buf.now) got result }
 {
     match got {
-        Ok(0) => Step::End,
-        Ok(n) => Step::Moved(n.min(buf.len())),
+        Ok(0) => Ok(None),
+        Ok(n) => Ok(Some(n.min(buf.len()))),
         Err(e) => {
             if e.kind() == ErrorKind::Interrupted {
-                return Step::Moved(0);
+                return Ok(Some(0));
             }
-            Step::Failed
+            Err(e)
         }
     }
 }
 
 // Tells on standard error what failed, and why.
-pub(crate) fn tell(rt: &impl Eprint, what: &str, got: io::Result<usize>) {
-    if let Err(e) = got {
-        let _ = eprintln!(rt; "{what}: {e}");
-    }
+pub(crate) fn tell(rt: &impl Eprint, what: &str, e: io::Error) {
+    let _ = eprintln!(rt; "{what}: {e}");
 }

@@ -3,7 +3,6 @@ ghost use Rattle.std.specs.Prelude.{◌≡◌, true};
 ghost use Rattle.std.specs.Io.KnownBytes.{Appends};
 
 use crate::moved;
-use crate::moved::Step;
 use std::io;
 
 // Writes all of a text, in as many writes as it takes, or tells on standard error why a write failed; answers whether all of it was written. As in
@@ -12,23 +11,21 @@ pub(crate) fn write_all<W: io::Write>(rt: &impl Eprint, out: &mut W, text: &[u8]
     ensures { result ≡ true → Appends (W.contents out.old) (W.contents out.new) text.now }
 {
     let mut done: usize = 0;
-    let mut writes = u64::MAX;
-    while writes > 0 {
-        writes -= 1;
+    for _ in 0..u64::MAX {
         if done == text.len() {
             return true;
         }
         let put = io::Write::write(out, &text[done..]);
         match moved::judged(put, &text[done..]) {
-            Step::Moved(n) => {
+            Ok(Some(n)) => {
                 done += n;
             }
-            Step::End => {
+            Ok(None) => {
                 let _ = eprintln!(rt; "printer: standard output: it takes no more");
                 return false;
             }
-            Step::Failed => {
-                moved::tell(rt, "printer: standard output", put);
+            Err(e) => {
+                moved::tell(rt, "printer: standard output", e);
                 return false;
             }
         }

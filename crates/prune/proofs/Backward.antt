@@ -1,37 +1,24 @@
 -- Rule 7: a worklist over parents finds the states that are kept. Assumes nothing.
-use mathlib.Core.Path.{◌≡◌, refl, sym, ap, subst, ◌∙◌}
-use mathlib.Core.Bool.{Bool, true, false, cond, ◌||◌, false≢true}
-use mathlib.Core.List.{List, ◌++◌}
+use mathlib.Core.Path.{◌≡◌, sym, ap, subst, ◌∙◌}
+use mathlib.Core.Bool.{Bool, true, false, cond, ◌||◌}
+use mathlib.Core.List.{List, [], ◌++◌}
 use mathlib.Core.Logic.{⊎_elim}
-use mathlib.Core.Option
-use mathlib.Core.Option.{Option, none, some}
-use Prim.Native.Nat.{ℕ, ◌+◌, ◌*◌, ◌-◌, ◌/◌, ◌%◌, ◌≤◌, ◌<◌, zero-le}
-use native.Mathlib.Nat.{not-suc-le-zero}
+use Prim.Native.Nat.{ℕ, ◌+◌, ◌*◌, ◌-◌, ◌/◌, ◌%◌, ◌≤◌, ◌<◌}
 use native.Mathlib.Omega.{arith}
 use lib.Dec.{eqb}
-use lib.ListN.{length, get_or, replicate, length-replicate}
+use lib.ListN.{length, get_or, replicate}
 use Rattle.lists.specs.Sets.{In, Reach}
 use Rattle.lists.proofs.Bools.{lt-or-le}
 use Rattle.lists.proofs.Closure.{closure-is, closure-length}
 use Rattle.lists.proofs.Padding.{padded}
-use Rattle.lists.proofs.Worklist.{Work, AllIn, none_in, closed}
+use Rattle.lists.proofs.Worklist.{AllIn}
+use Rattle.worklist.specs.Work.{Work}
+use Rattle.worklist.proofs.Looking.{Looking, closed}
 use Rattle.graph_rules.specs.Graph.{Graph, state_of, leads}
-use Rattle.graph_rules.specs.Build.{present, marked, kept}
+use Rattle.graph_rules.specs.Build.{marked, kept}
 use Rattle.prune.specs.Matrix.{matrix_row, byte_of, bit_at}
 use Rattle.prune.proofs.BitRows.{byte-none}
 use Rattle.graph_rules.specs.Layout.{most_states}
-
--- ---- a mark, from the word of its leaf
-
-pub is-present : (k : ℕ) (o : Option ℕ) → (Option.get_or o k ≡ k → ⊥) → present o ≡ true
-is-present k none n = absurd (n refl)
-is-present k (some l) n = refl
-
-pub is-absent : (k : ℕ) (o : Option ℕ) → (o ≡ some k → ⊥) → Option.get_or o k ≡ k → present o ≡ false
-is-absent k none n e = refl
-is-absent k (some l) n e = absurd (n (ap {B = Option ℕ} some e))
-
--- ---- the worklist
 
 module _ (g : Graph) where
   abbrev edge : ℕ → ℕ → Bool
@@ -49,19 +36,8 @@ module _ (g : Graph) where
   found t j = cond (leads (state_of g j) t) j t
 
   -- P: what is being looked at now
-  abbrev pub Search : (ℕ → Type 0) → List Bool → List ℕ → ℕ → Type 0
-  Search P out stack top = Work found (length g.states) most_states Good P out stack top
-
-  pub search-none : Search (λ _. ⊥) (replicate most_states false) (replicate most_states 0) 0
-  search-none =
-      record {
-        out_len = length-replicate {A = Bool} most_states false;
-        st_len = let e = length-replicate {A = ℕ} most_states 0 in omega arith;
-        few = zero-le;
-        good = λ k i. absurd (false≢true (sym (none_in most_states k) ∙ i));
-        held = λ i l. absurd (not-suc-le-zero l);
-        done = λ k i. absurd (false≢true (sym (none_in most_states k) ∙ i));
-      }
+  abbrev pub Search : (ℕ → Type 0) → Work → Type 0
+  Search P w = Looking found (length g.states) Good P w
 
   -- a state that is no parent adds nothing, and one that is there already neither
   pub found_none : (out : List Bool) (t j : ℕ) → In out t → leads (state_of g j) t ≡ false → In out (found t j)
@@ -86,14 +62,14 @@ module _ (g : Graph) where
       (lt-or-le j p)
 
   -- nothing is left to look at
-  pub search-done : (out : List Bool) (stack : List ℕ) (top : ℕ) → length g.states ≤ most_states → top ≤ 0 → Search (λ _. ⊥) out stack top
-      → ((s : ℕ) → s < length g.states → seed s ≡ true → In out s) → out ≡ kept g ++ replicate (most_states - length g.states) false
+  pub search-done : (w : Work) → length w.seen ≡ most_states → length g.states ≤ most_states → w.waiting ≡ [] → Search (λ _. ⊥) w
+      → ((s : ℕ) → s < length g.states → seed s ≡ true → In w.seen s) → w.seen ≡ kept g ++ replicate (most_states - length g.states) false
   unfolding kept
-  search-done out stack top fits none_left v seeds =
+  search-done w len fits none v seeds =
       let n = length g.states in
       let e = closure-length edge n seed in
-      padded false out (kept g) most_states v.out_len (omega arith)
-      (closure-is edge n seed out seeds
-      (λ k t i h l. subst (In out) (ap (λ (b : Bool). cond b t k) l) (closed found n most_states Good out stack top none_left v k i t h))
+      padded false w.seen (kept g) most_states len (omega arith)
+      (closure-is edge n seed w.seen seeds
+      (λ k t i h l. subst (In w.seen) (ap (λ (b : Bool). cond b t k) l) (closed found n Good w none v k i t h))
       v.good)
       ∙ ap (λ (x : ℕ). kept g ++ replicate (most_states - x) false) e

@@ -1,8 +1,8 @@
 -- The bit matrix of parents: a bit that is set, the others, and what stands in it in the midst of the pass over all edges. Assumes nothing.
+use Rattle.std.specs.Prelude.{Some}
 use mathlib.Core.Path.{◌≡◌, refl, sym, ap, subst, subst₂, ◌∙◌}
 use mathlib.Core.Bool.{true, false, false≢true}
 use mathlib.Core.List.{List}
-use mathlib.Core.Option.{some}
 use mathlib.Core.Logic.{◌⊎◌, inl, inr, ⊎_elim}
 use Prim.Native.Nat.{ℕ, ◌+◌, ◌%◌, ◌<◌}
 use native.Mathlib.Omega.{arith}
@@ -64,7 +64,7 @@ Pair = ℕ × ℕ
 
 module _ (g : Graph) where
   abbrev pub Led : ℕ → ℕ → Pair → Type 0
-  Led q d x = (x.1 ≡ q) × (to g q d ≡ some x.0)
+  Led q d x = (x.1 ≡ q) × (to g q d ≡ Some x.0)
 
   abbrev pub Noted : List ℕ → Pair → Type 0
   Noted m x = (x.0 < most_states) × (x.1 < most_states) × (bit_at m x.0 x.1 ≡ true)
@@ -81,10 +81,10 @@ module _ (g : Graph) where
       }
 
   module _ (p c : ℕ) (m : List ℕ) (v : Matrix p c m) where
-    pub parents-skip : ((t : ℕ) → to g p c ≡ some t → ⊥) → Matrix p (c + 1) m
+    pub parents-skip : ((t : ℕ) → to g p c ≡ Some t → ⊥) → Matrix p (c + 1) m
     parents-skip f = record { len = v.len; pass = pass-skip Led p c (Noted m) v.pass (λ x e. f x.0 e.1) }
 
-    pub parents-set : (t : ℕ) → t < most_states → p < most_states → to g p c ≡ some t → Matrix p (c + 1) (with_parent m t p)
+    pub parents-set : (t : ℕ) → t < most_states → p < most_states → to g p c ≡ Some t → Matrix p (c + 1) (with_parent m t p)
     parents-set t ht hp e =
         record { len = length-set m (byte_of t p) _ ∙ v.len; pass = pass-more Led p c (Noted m) v.pass (Noted (with_parent m t p)) only keeps hits }
       where
@@ -103,7 +103,7 @@ module _ (g : Graph) where
         only : (x : Pair) → Noted (with_parent m t p) x → Noted m x ⊎ Led p c x
         only x n =
             ⊎_elim
-            (λ z. inr (z.1, subst (λ (u : ℕ). to g p c ≡ some u) (sym z.0) e))
+            (λ z. inr (z.1, subst (λ (u : ℕ). to g p c ≡ Some u) (sym z.0) e))
             (λ z. inl (n.0, n.1, sym z ∙ n.2))
             (split x.0 x.1 n.1)
 
@@ -115,7 +115,7 @@ module _ (g : Graph) where
             let a : x.0 ≡ t = some_inj (sym l.1 ∙ e) in
             (subst (λ (u : ℕ). u < most_states) (sym a) ht, subst (λ (q : ℕ). q < most_states) (sym l.0) hp, own x.0 x.1 a l.0)
 
-    pub parents-row : ((d u : ℕ) → to g p d ≡ some u → d < c) → Matrix (p + 1) 0 m
+    pub parents-row : ((d u : ℕ) → to g p d ≡ Some u → d < c) → Matrix (p + 1) 0 m
     parents-row wide = record { len = v.len; pass = pass-row Led p c (Noted m) v.pass (λ d x e. wide d x.0 e.1) }
 
   -- all edges have been passed

@@ -1,9 +1,9 @@
 -- Rule 7: the graph relabelled by the numbers of its kept states is the pruned one, also where flags and names go on past its states.
 -- Assumes nothing.
+use Rattle.std.specs.Prelude.{Option, None}
 use mathlib.Core.Path.{◌≡◌, sym, ap, ◌∙◌}
 use mathlib.Core.Bool.{Bool, false}
 use mathlib.Core.List.{List, ◌++◌}
-use mathlib.Core.Option.{Option, none}
 use Prim.Native.Nat.{ℕ}
 use native.Mathlib.Omega.{arith}
 use lib.ListN.{length, get_or, replicate}
@@ -23,8 +23,8 @@ module _ (g : Graph) (j : ℕ) (names : List (Option ℕ)) (names-are : names �
   abbrev keep : List Bool
   keep = kept g ++ replicate j false
 
-  alike : (u : ℕ) → get_or names u none ≡ get_or (number_from 0 (kept g)) u none
-  alike u = ap (λ (l : List (Option ℕ)). get_or l u none) (names-are ∙ number-padded 0 (kept g) j) ∙ padding-at none (number_from 0 (kept g)) j u
+  alike : (u : ℕ) → get_or names u None ≡ get_or (number_from 0 (kept g)) u None
+  alike u = ap (λ (l : List (Option ℕ)). get_or l u None) (names-are ∙ number-padded 0 (kept g) j) ∙ padding-at None (number_from 0 (kept g)) j u
 
   rest-is : select keep g.states ≡ select (kept g) g.states
   rest-is =

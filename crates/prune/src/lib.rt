@@ -9,92 +9,65 @@ ghost use Rattle.graph_rules.specs.Layout.{most_states};
 
 use bits::{test_bit, with_bit};
 use relabel::{numbered, relabel};
-use words::graph::{NO_LEAF, accept, early, root, states, target};
-use words::{NONE, STATES, STEPS};
+use words::graph::Graph;
+use words::{STATES, STEPS};
+use worklist::Worklist;
 
 // A bit for each state, in bytes.
 const ROW: usize = STATES / 8;
-// A row for each state.
+// A row for each state: one array, no heap, whose definition counts its bytes through (specs/Matrix.antt).
 const MATRIX: usize = ROW * STATES;
 
 // The parents of every state, by byte and end edges: bit p of row t is set if state p leads to state t.
-fn parents(graph: &[u16]) -> [u8; MATRIX]
-    requires { graph_fits graph.now ≡ true }
-    ensures { (t p : ℕ) → t < most_states → p < most_states → bit_at result t p ≡ leads (state_of (graph_from graph.now) p) t }
+fn parents(graph: Graph<'_>) -> [u8; MATRIX]
+    ensures { (t p : ℕ) → t < most_states → p < most_states → bit_at result t p ≡ leads (state_of (graph_from graph.entry.words.now) p) t }
 {
-    let n = states(graph);
     let mut out = [0u8; MATRIX];
-    let mut p: usize = 0;
-    while p < n {
-        let mut c: usize = 0;
-        while c < STEPS {
-            let t = target(graph, p, c);
-            c += 1;
-            if t != NONE {
+    for p in 0..graph.states() {
+        for c in 0..STEPS {
+            if let Some(t) = graph.target(p, c) {
                 let at = ROW * t + p / 8;
                 out[at] = with_bit(out[at], p % 8, true);
             }
         }
-        p += 1;
     }
     out
 }
 
 // Whether state s has a mark, or is the root.
-fn is_seed(graph: &[u16], s: usize) -> bool
-    requires graph_value { graph_fits graph.now ≡ true }
-    requires s_bound { s < get_or graph.now 0 0 }
-    ensures { result ≡ (marked (state_of (graph_from graph.now) s) || eqb (graph_from graph.now).root s) }
+fn is_seed(graph: Graph<'_>, s: usize) -> bool
+    requires { s < get_or graph.words.now 0 0 }
+    ensures { result ≡ (marked (state_of (graph_from graph.entry.words.now) s) || eqb (graph_from graph.entry.words.now).root s) }
 {
-    if accept(graph, s) != NO_LEAF {
-        return true;
-    }
-    if early(graph, s) != NO_LEAF {
-        return true;
-    }
-    root(graph) == s
+    graph.accept(s).is_some() || graph.early(s).is_some() || graph.root() == s
 }
 
-// The states with a mark, the root, and all that can reach one of these: those reached are put on a stack once each, and their parents looked at.
-fn kept(graph: &[u16]) -> [bool; STATES]
-    requires { graph_fits graph.now ≡ true }
-    ensures { result ≡ kept (graph_from graph.now) ++ replicate (most_states - get_or graph.now 0 0) false }
+// The states with a mark, the root, and all that can reach one of these: by a worklist, over the parents of each.
+fn kept(graph: Graph<'_>) -> [bool; STATES]
+    ensures { result ≡ kept (graph_from graph.entry.words.now) ++ replicate (most_states - get_or graph.entry.words.now 0 0) false }
 {
-    let n = states(graph);
+    let n = graph.states();
     let from = parents(graph);
-    let mut out = [false; STATES];
-    let mut stack = [0u16; STATES];
-    let mut top: usize = 0;
-    let mut next: usize = 0;
-    while next < n {
-        let s = next;
-        next += 1;
+    let mut work: Worklist<STATES> = Worklist::new();
+    for s in 0..n {
         if is_seed(graph, s) {
-            out[s] = true;
-            stack[top] = s as u16;
-            top += 1;
+            work.push(s);
         }
     }
-    while 0 < top {
-        top -= 1;
-        let t = stack[top] as usize;
-        let mut p: usize = 0;
-        while p < n {
-            let parent = p;
-            let byte = from[ROW * t + parent / 8];
-            if byte == 0 {
-                p += 8 - parent % 8;
-                continue;
-            }
-            p += 1;
-            if test_bit(byte, parent % 8) && !out[parent] {
-                out[parent] = true;
-                stack[top] = parent as u16;
-                top += 1;
+    while let Some(t) = work.pop() {
+        for k in 0..ROW {
+            // Eight states at once, where none of them is a parent.
+            let byte = from[ROW * t + k];
+            if byte != 0 {
+                for b in 0..8 {
+                    if test_bit(byte, b) {
+                        work.push(8 * k + b);
+                    }
+                }
             }
         }
     }
-    out
+    work.seen()
 }
 
 // Drops the states that are not kept; the others keep their order.
@@ -103,7 +76,7 @@ pub fn prune(graph: &mut [u16])
     ensures graph_after { graph.new ≡ rewritten pruned graph.old }
     ensures graph_after_2 { graph_fits graph.new ≡ true }
 {
-    let keep = kept(graph);
+    let keep = kept(Graph { words: graph });
     let names = numbered(&keep);
     relabel(graph, &names, &keep);
 }

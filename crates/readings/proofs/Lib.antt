@@ -1,4 +1,4 @@
 pub mod Turn
+pub mod Starts
 pub mod Answering
-pub mod TableTurn
 pub mod Report

@@ -5,3 +5,4 @@
 
 pub mod read;
 pub mod read_table;
+pub mod walk;

@@ -1,15 +1,14 @@
--- New names as words: a set's members numbered from the front; names that read alike relabel alike; the names of the prune and of a merge round fit.
+-- New names: a set's members numbered from the front; names that read alike relabel alike; the names of the prune and of a merge round fit.
 -- Assumes nothing.
+use Rattle.std.specs.Prelude.{Option, Some, None, unwrap_or}
 use mathlib.Core.Path.{◌≡◌, refl, sym, ap, ◌∙◌}
 use mathlib.Core.Bool.{Bool, false}
 use mathlib.Core.List.{List, map}
-use mathlib.Core.Option
-use mathlib.Core.Option.{Option, none, some}
 use Prim.Native.Nat.{ℕ, ◌+◌, ◌≤◌, ◌<◌}
 use native.Mathlib.Nat.{not-suc-le-zero}
 use native.Mathlib.Omega.{arith}
 use borrow.Author.Count.{below_more}
-use lib.ListN.{length, get_or, set, take, replicate, length-map, length-set, length-replicate, get_or-map}
+use lib.ListN.{length, get_or, set, take, replicate, length-set, length-replicate}
 use lib.Seq.{ext_get_or, get_or-set_same, get_or-set_other}
 use Rattle.lists.specs.Lists.{select, distinct, number_from}
 use Rattle.lists.specs.Sets.{In, count}
@@ -17,45 +16,43 @@ use Rattle.lists.proofs.Numbering.{number-count}
 use Rattle.lists.proofs.Numbers.{number-length, number-none, count-few}
 use Rattle.lists.proofs.Padding.{replicate-at}
 use Rattle.lists.proofs.Worklist.{count-take-in, count-take-out}
-use Rattle.graph_rules.specs.Graph.{State, Graph, or_none, same}
+use Rattle.graph_rules.specs.Graph.{State, Graph, same}
 use Rattle.graph_rules.specs.Build.{renamed, relabel, kept}
 use Rattle.graph_rules.proofs.Fits.{Root, restrict-rooted, round-rooted}
 use Rattle.graph_rules.proofs.Merge.{names, placed}
-use Rattle.graph_rules.proofs.Nones.{or-none, or-number}
 use Rattle.graph_rules.proofs.Prune.{kept-length, kept-root, restrict-placed}
-use Rattle.relabel.specs.Names.{names_of, Fitting}
-use Rattle.graph_rules.specs.Layout.{no_state, most_states}
+use Rattle.relabel.specs.Names.{Fitting}
+use Rattle.graph_rules.specs.Layout.{most_states}
 
 -- ---- numbering: the numbers below s have been passed, k of them are members
 
-pub record Numbered (keep : List Bool) (s k : ℕ) (out : List ℕ) : Type 0 where
+pub record Numbered (keep : List Bool) (s k : ℕ) (out : List (Option ℕ)) : Type 0 where
   pub len : length out ≡ most_states
   pub size : k ≡ count (take s keep)
-  pub done : (i : ℕ) → i < s → or_none no_state (get_or out i no_state) ≡ get_or (number_from 0 keep) i none
-  pub left : (i : ℕ) → s ≤ i → get_or out i no_state ≡ no_state
+  pub done : (i : ℕ) → i < s → get_or out i None ≡ get_or (number_from 0 keep) i None
+  pub left : (i : ℕ) → s ≤ i → get_or out i None ≡ None
 
 module _ (keep : List Bool) where
-  pub numbered-none : Numbered keep 0 0 (replicate most_states no_state)
+  pub numbered-none : Numbered keep 0 0 (replicate most_states None)
   numbered-none =
-      record { len = length-replicate {A = ℕ} most_states no_state; size = refl; done = λ i h. absurd (not-suc-le-zero h); left = λ i h. replicate-at no_state most_states i }
+      record { len = length-replicate {A = Option ℕ} most_states None; size = refl; done = λ i h. absurd (not-suc-le-zero h); left = λ i h. replicate-at None most_states i }
 
-  module _ (s k : ℕ) (out : List ℕ) (v : Numbered keep s k out) where
+  module _ (s k : ℕ) (out : List (Option ℕ)) (v : Numbered keep s k out) where
     pub numbered-low : k ≤ s
     numbered-low = let e = v.size in omega (arith, count-few keep s)
 
-    pub numbered-in : s < most_states → In keep s → Numbered keep (s + 1) (k + 1) (set out s k)
+    pub numbered-in : s < most_states → In keep s → Numbered keep (s + 1) (k + 1) (set out s (Some k))
     numbered-in h i =
         let e = v.len in
         let low = numbered-low in
-        let number : or_none no_state k ≡ some k = or-number no_state k (λ q. omega arith) in
         record {
-          len = length-set out s k ∙ v.len;
+          len = length-set out s (Some k) ∙ v.len;
           size = ap (λ (x : ℕ). x + 1) v.size ∙ sym (count-take-in keep s i);
           done = below_more _ s
-              (λ j l. ap (or_none no_state) (get_or-set_other out s j k no_state (λ q. let z : j ≡ s = q in omega arith)) ∙ v.done j l)
-              (ap (or_none no_state) (get_or-set_same out s k no_state (omega arith)) ∙ number
-              ∙ ap {B = Option ℕ} some (v.size ∙ let z : count (take s keep) ≡ 0 + count (take s keep) = omega arith in z) ∙ sym (number-count 0 keep s i));
-          left = λ j l. get_or-set_other out s j k no_state (λ q. let z : j ≡ s = q in omega arith) ∙ v.left j (omega arith);
+              (λ j l. get_or-set_other out s j (Some k) None (λ q. let z : j ≡ s = q in omega arith) ∙ v.done j l)
+              (get_or-set_same out s (Some k) None (omega arith)
+              ∙ ap {B = Option ℕ} Some (v.size ∙ let z : count (take s keep) ≡ 0 + count (take s keep) = omega arith in z) ∙ sym (number-count 0 keep s i));
+          left = λ j l. get_or-set_other out s j (Some k) None (λ q. let z : j ≡ s = q in omega arith) ∙ v.left j (omega arith);
         }
 
     pub numbered-out : get_or keep s false ≡ false → Numbered keep (s + 1) k out
@@ -63,28 +60,27 @@ module _ (keep : List Bool) where
         record {
           len = v.len;
           size = v.size ∙ sym (count-take-out keep s e);
-          done = below_more _ s v.done (or-none no_state _ (v.left s (omega arith)) ∙ sym (number-none 0 keep s e));
+          done = below_more _ s v.done (v.left s (omega arith) ∙ sym (number-none 0 keep s e));
           left = λ j l. v.left j (omega arith);
         }
 
-  pub numbered-all : (k : ℕ) (out : List ℕ) → length keep ≡ most_states → Numbered keep most_states k out → names_of out ≡ number_from 0 keep
+  pub numbered-all : (k : ℕ) (out : List (Option ℕ)) → length keep ≡ most_states → Numbered keep most_states k out → out ≡ number_from 0 keep
   numbered-all k out size v =
-      let a : length (names_of out) ≡ length out = length-map out (or_none no_state) in
       let b = v.len in
       let c = number-length 0 keep in
-      ext_get_or none (names_of out) (number_from 0 keep) (omega arith) (λ i h. get_or-map (or_none no_state) out i no_state ∙ v.done i (omega arith))
+      ext_get_or None out (number_from 0 keep) (omega arith) (λ i h. v.done i (omega arith))
 
 -- ---- names that read alike
 
-pub relabel-alike : (a b : List (Option ℕ)) (rest : List State) (root : ℕ) → ((u : ℕ) → get_or a u none ≡ get_or b u none) → relabel a rest root ≡ relabel b rest root
+pub relabel-alike : (a b : List (Option ℕ)) (rest : List State) (root : ℕ) → ((u : ℕ) → get_or a u None ≡ get_or b u None) → relabel a rest root ≡ relabel b rest root
 unfolding relabel renamed
 relabel-alike a b rest root same =
     λ i. record {
-      states = map (λ s. record { steps = map (λ o. elim o [ none ↦ none | some u ↦ same u i ]) s.steps; accept = s.accept; early = s.early }) rest;
-      root = Option.get_or (same root i) 0;
+      states = map (λ s. record { steps = map (λ o. elim o [ None ↦ None | Some u ↦ same u i ]) s.steps; accept = s.accept; early = s.early }) rest;
+      root = unwrap_or (same root i) 0;
     }
 
-pub fitting-alike : (a b : List (Option ℕ)) (rest : List State) (root : ℕ) → ((u : ℕ) → get_or a u none ≡ get_or b u none) → Fitting b rest root → Fitting a rest root
+pub fitting-alike : (a b : List (Option ℕ)) (rest : List State) (root : ℕ) → ((u : ℕ) → get_or a u None ≡ get_or b u None) → Fitting b rest root → Fitting a rest root
 fitting-alike a b rest root same f =
     record { below = λ s i e. f.below s i (sym (same s) ∙ e); root_below = rw (same root) f.root_below }
 

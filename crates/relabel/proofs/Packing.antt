@@ -1,10 +1,9 @@
 -- All rows that stay move together in place: what stands in the words after some rows, and that in the end they are the buffer of the relabelled
 -- graph. Assumes nothing.
+use Rattle.std.specs.Prelude.{Option, None, unwrap_or}
 use mathlib.Core.Path.{◌≡◌, refl, sym, ap, subst, ◌∙◌}
 use mathlib.Core.Bool.{true}
 use mathlib.Core.List.{List, [], ◌∷◌, ◌++◌}
-use mathlib.Core.Option
-use mathlib.Core.Option.{Option, none}
 use mathlib.Core.Logic.{◌⊎◌, inl, inr, ⊎_elim}
 use Prim.Native.Nat.{ℕ, ◌+◌, ◌-◌, ◌≤◌, ◌<◌}
 use native.Mathlib.Nat.{not-suc-le-zero, eq-or-lt_of_le}
@@ -20,28 +19,28 @@ use Rattle.graph_rules.proofs.Fits.{Fits}
 use Rattle.graph_rules.proofs.Flat.{from-to}
 use Rattle.graph_rules.proofs.Rename.{led, relabel-to, relabel-accept, relabel-early}
 use Rattle.graph_rules.proofs.Taken.{taken-few, taken-long}
-use Rattle.relabel.specs.Names.{names_of, Moved}
+use Rattle.relabel.specs.Names.{Moved}
 use Rattle.words.proofs.GraphWords.{accept-is, early-is}
 use Rattle.words.proofs.Buffers.{written}
 use Rattle.relabel.proofs.Rows.{renamed-is}
 
 -- row i is that of a state, renamed
-pub record Row (names : List ℕ) (st : State) (i : ℕ) (w : List ℕ) : Type 0 where
-  pub targets : (c : ℕ) → c < step_count → get_or w (graph_place i c) 0 ≡ Option.get_or (led (names_of names) (get_or st.steps c none)) no_state
-  pub marks : get_or w (graph_place i marks_place) 0 ≡ marks_word (Option.get_or st.accept no_leaf) (Option.get_or st.early no_leaf)
+pub record Row (names : List (Option ℕ)) (st : State) (i : ℕ) (w : List ℕ) : Type 0 where
+  pub targets : (c : ℕ) → c < step_count → get_or w (graph_place i c) 0 ≡ unwrap_or (led names (get_or st.steps c None)) no_state
+  pub marks : get_or w (graph_place i marks_place) 0 ≡ marks_word (unwrap_or st.accept no_leaf) (unwrap_or st.early no_leaf)
 
-module _ (names : List ℕ) (st : State) (i : ℕ) (v w : List ℕ) where
+module _ (names : List (Option ℕ)) (st : State) (i : ℕ) (v w : List ℕ) where
   -- it stays where its words do
   row_stays : ((c : ℕ) → c < row_words → get_or w (graph_place i c) 0 ≡ get_or v (graph_place i c) 0) → Row names st i v → Row names st i w
   row_stays same r = record { targets = λ c h. same c (omega arith) ∙ r.targets c h; marks = same marks_place (omega arith) ∙ r.marks }
 
 -- w₀: the words at the beginning; rest: the states that stay, of those before s
-pub record Packed (names : List ℕ) (rest : List State) (s : ℕ) (w₀ w : List ℕ) : Type 0 where
+pub record Packed (names : List (Option ℕ)) (rest : List State) (s : ℕ) (w₀ w : List ℕ) : Type 0 where
   pub len : length w ≡ length w₀
   pub rows : (i : ℕ) → i < length rest → Row names (get_or rest i blank) i w
   pub others : (i : ℕ) → (i < 2) ⊎ (graph_place s 0 ≤ i) → get_or w i 0 ≡ get_or w₀ i 0
 
-module _ (names : List ℕ) (w₀ : List ℕ) where
+module _ (names : List (Option ℕ)) (w₀ : List ℕ) where
   pub packed_none : Packed names [] 0 w₀ w₀
   packed_none = record { len = refl; rows = λ i h. absurd (not-suc-le-zero h); others = λ i h. refl }
 
@@ -67,7 +66,7 @@ module _ (names : List ℕ) (w₀ : List ℕ) where
         record {
           targets = λ c b.
               m.words c (omega arith) ∙ (rw (lt-ltb c step_count b)) ∙ renamed-is names (get_or v (graph_place s c) 0)
-              ∙ ap (λ (o : Option ℕ). Option.get_or (led (names_of names) o) no_state) (ap (or_none no_state) (before c) ∙ sym (from-to w₀ (taken-long w₀ taken) s h c b));
+              ∙ ap (λ (o : Option ℕ). unwrap_or (led names o) no_state) (ap (or_none no_state) (before c) ∙ sym (from-to w₀ (taken-long w₀ taken) s h c b));
           marks =
               let a = accept-is w₀ taken s h in
               let b = early-is w₀ taken s h in
@@ -99,14 +98,14 @@ module _ (names : List ℕ) (w₀ : List ℕ) where
 
 -- ---- all rows have been passed, the vacated ones become zero, and count and root are written
 
-module _ (names : List ℕ) (w₀ : List ℕ) (taken : graph_fits w₀ ≡ true) (rest : List State) (root : ℕ)
-    (fits : Fits no_leaf (get_or w₀ 0 0) (relabel (names_of names) rest root)) (few : length rest ≤ get_or w₀ 0 0)
+module _ (names : List (Option ℕ)) (w₀ : List ℕ) (taken : graph_fits w₀ ≡ true) (rest : List State) (root : ℕ)
+    (fits : Fits no_leaf (get_or w₀ 0 0) (relabel names rest root)) (few : length rest ≤ get_or w₀ 0 0)
     (w : List ℕ) (p : Packed names rest (get_or w₀ 0 0) w₀ w) where
   abbrev n : ℕ
   n = get_or w₀ 0 0
 
   abbrev new : Graph
-  new = relabel (names_of names) rest root
+  new = relabel names rest root
 
   abbrev head : List ℕ
   head = length rest ∷ (new.root ∷ [])
@@ -133,7 +132,7 @@ module _ (names : List ℕ) (w₀ : List ℕ) (taken : graph_fits w₀ ≡ true)
 
   size : length new.states ≡ length rest
   unfolding relabel
-  size = length-map rest (renamed (names_of names))
+  size = length-map rest (renamed names)
 
   after : drop (graph_size n) (sets zeroed 0 head) ≡ drop (graph_size n) w₀
   after =
@@ -143,8 +142,8 @@ module _ (names : List ℕ) (w₀ : List ℕ) (taken : graph_fits w₀ ≡ true)
 
   pub packed_all :
       sets (sets w (graph_place (length rest) 0) (replicate (graph_place (get_or w₀ 0 0) 0 - graph_place (length rest) 0) 0)) 0
-      (length rest ∷ ((relabel (names_of names) rest root).root ∷ []))
-      ≡ written_on (get_or w₀ 0 0) (relabel (names_of names) rest root) w₀
+      (length rest ∷ ((relabel names rest root).root ∷ []))
+      ≡ written_on (get_or w₀ 0 0) (relabel names rest root) w₀
   packed_all =
       let l = long in
       let e = size in
@@ -153,10 +152,10 @@ module _ (names : List ℕ) (w₀ : List ℕ) (taken : graph_fits w₀ ≡ true)
       (written no_leaf n (omega arith) (taken-few w₀ taken) new fits (sets zeroed 0 head) (omega arith)
       (sets-away 0 (set zeroed 0 (length rest)) 1 (new.root ∷ []) 0 (inl (omega arith)) ∙ get_or-set_same zeroed 0 (length rest) 0 (omega arith) ∙ sym e)
       (get_or-set_same (set zeroed 0 (length rest)) 1 new.root 0 (let y = length-set zeroed 0 (length rest) in omega arith))
-      (λ i c h b. (kept_row i (omega arith)).targets c b ∙ ap (λ (o : Option ℕ). Option.get_or o no_state) (sym (relabel-to (names_of names) rest root i c)))
+      (λ i c h b. (kept_row i (omega arith)).targets c b ∙ ap (λ (o : Option ℕ). unwrap_or o no_state) (sym (relabel-to names rest root i c)))
       (λ i h.
-      let a = relabel-accept (names_of names) rest root i in
-      let b = relabel-early (names_of names) rest root i in
+      let a = relabel-accept names rest root i in
+      let b = relabel-early names rest root i in
       (kept_row i (omega arith)).marks ∙ rw (a, b))
       (λ i h k.
       let z = length-replicate {A = ℕ} (graph_place n 0 - graph_place (length rest) 0) 0 in

@@ -1,45 +1,37 @@
 -- A row that moves, word by word. Assumes nothing.
-use mathlib.Core.Path.{◌≡◌, refl, sym, ap, ◌∙◌}
+use Rattle.std.specs.Prelude.{Option, unwrap_or}
+use mathlib.Core.Path.{◌≡◌, refl, ap, ◌∙◌}
 use mathlib.Core.List.{List, [], ◌∷◌}
-use mathlib.Core.Option
-use mathlib.Core.Option.{Option, none}
 use mathlib.Core.Logic.{inl, inr, ⊎_elim}
 use Prim.Native.Nat.{ℕ, ◌+◌, ◌≤◌, ◌<◌}
 use native.Mathlib.Nat.{not-suc-le-zero}
 use native.Mathlib.Omega.{arith}
 use borrow.Author.Count.{below_more}
 use lib.Dec.{eqb}
-use lib.ListN.{length, get_or, set, length-set, get_or-map}
+use lib.ListN.{length, get_or, set, length-set}
 use lib.Seq.{get_or-set_same}
 use Rattle.lists.proofs.Bools.{Is, is, yes-is, no-is}
 use Rattle.lists.proofs.Buffers.{sets-away}
-use Rattle.lists.proofs.Padding.{default-any}
 use Rattle.graph_rules.specs.Layout.{no_state, row_words, marks_place, graph_place}
 use Rattle.graph_rules.specs.Graph.{or_none}
 use Rattle.graph_rules.proofs.Rename.{led}
-use Rattle.graph_rules.proofs.Nones.{or_word}
-use Rattle.relabel.specs.Names.{names_of, renamed_word, new_word, Moved}
-
--- ---- names, from their words
-
-pub name-is : (names : List ℕ) (u : ℕ) → u < length names → get_or (names_of names) u none ≡ or_none no_state (get_or names u 0)
-name-is names u h = get_or-map (or_none no_state) names u no_state ∙ ap (or_none no_state) (default-any no_state 0 names u h)
+use Rattle.relabel.specs.Names.{renamed_word, new_word, Moved}
 
 -- a target word is renamed as its edge is
-pub renamed-is : (names : List ℕ) (u : ℕ) → renamed_word names u ≡ Option.get_or (led (names_of names) (or_none no_state u)) no_state
+pub renamed-is : (names : List (Option ℕ)) (u : ℕ) → renamed_word names u ≡ unwrap_or (led names (or_none no_state u)) no_state
 renamed-is names u = go (is (eqb u no_state))
   where
-    go : Is (eqb u no_state) → renamed_word names u ≡ Option.get_or (led (names_of names) (or_none no_state u)) no_state
+    go : Is (eqb u no_state) → renamed_word names u ≡ unwrap_or (led names (or_none no_state u)) no_state
     go (yes-is q) = rw q
-    go (no-is q) = rw q (sym (or_word no_state (get_or names u no_state)) ∙ ap (λ (o : Option ℕ). Option.get_or o no_state) (sym (get_or-map (or_none no_state) names u no_state)))
+    go (no-is q) = rw q
 
 -- ---- a row of which the first c words have moved
 
-pub moved_none : (names : List ℕ) (s k : ℕ) (v : List ℕ) → Moved names s k 0 v v
+pub moved_none : (names : List (Option ℕ)) (s k : ℕ) (v : List ℕ) → Moved names s k 0 v v
 moved_none names s k v = record { len = refl; words = λ d h. absurd (not-suc-le-zero h); others = λ i h. refl }
 
 -- as the row moves to its place or before it, the word that is next has not changed yet
-pub moved_more : (names : List ℕ) (s k c : ℕ) (v w : List ℕ) → k ≤ s → graph_place s marks_place < length v → c < row_words → Moved names s k c v w
+pub moved_more : (names : List (Option ℕ)) (s k c : ℕ) (v w : List ℕ) → k ≤ s → graph_place s marks_place < length v → c < row_words → Moved names s k c v w
     → Moved names s k (c + 1) v (set w (graph_place k c) (new_word names c (get_or w (graph_place s c) 0)))
 moved_more names s k c v w down fits h m =
     let x = new_word names c (get_or w (graph_place s c) 0) in

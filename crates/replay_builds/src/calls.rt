@@ -1,7 +1,8 @@
 // The two calls on a case, each with buffers that are filled with a word of the case before it.
-use graph::new::{BuildAnswer, Counts};
-use vectors::cases::{kind, number, part};
-use vectors::words::front;
+use graph::new::Counts;
+use refusals::Refusal;
+use vectors::cases::{kind, number, part, words};
+use vectors::words::{front, same};
 
 // Room for any legal table, and for one of a state more.
 fn table_room() -> [u16; 273664] {
@@ -24,14 +25,6 @@ fn image_room() -> [u8; 547329] {
 
 // ---- the image of a table: its words low byte first, and a byte more where one is given
 
-fn low(word: u16) -> u8 {
-    (word % 256) as u8
-}
-
-fn high(word: u16) -> u8 {
-    (word / 256) as u8
-}
-
 // Byte k of an image, if there is room.
 fn put(image: &mut [u8], k: usize, value: u8) {
     if k < image.len() {
@@ -39,19 +32,13 @@ fn put(image: &mut [u8], k: usize, value: u8) {
     }
 }
 
-// Word k, if there is room.
-fn put_word(image: &mut [u8], k: usize, word: u16) {
-    if k < image.len() / 2 {
-        put(image, 2 * k, low(word));
-        put(image, 2 * k + 1, high(word));
-    }
-}
-
 // The words into the front of a lent buffer, as far as there is room.
 fn pack(table: &[u16], image: &mut [u8]) {
-    let n = table.len();
-    for k in 0..n {
-        put_word(image, k, table[k]);
+    for (k, word) in table.iter().enumerate() {
+        if k < image.len() / 2 {
+            put(image, 2 * k, (*word % 256) as u8);
+            put(image, 2 * k + 1, (*word / 256) as u8);
+        }
     }
 }
 
@@ -65,6 +52,7 @@ fn image_of(table: &[u16], odd: &[u8], image: &mut [u8]) -> usize {
 
 // ---- a call: the answer, and the buffers, which are filled with a word of the case and are then to be as two others are
 
+// (`replay_readings` has it too: what both share, `vectors`, stands below the graph.)
 fn counts_alike(c: Counts, case: &[u8]) -> bool {
     c.states == number(case, 2)
         && c.root == number(case, 3)
@@ -72,75 +60,35 @@ fn counts_alike(c: Counts, case: &[u8]) -> bool {
         && c.words == number(case, 5)
 }
 
-fn answer_alike(answer: BuildAnswer, refusal: usize, case: &[u8]) -> bool {
+// The stored number is 0 where the call is not refused.
+fn answer_alike(answer: Result<Counts, Refusal>, refusal: usize, case: &[u8]) -> bool {
     match answer {
-        BuildAnswer::Built(c) => refusal == 0 && counts_alike(c, case),
-        BuildAnswer::Refused(r) => refusal != 0 && r as usize == refusal,
+        Ok(c) => refusal == 0 && counts_alike(c, case),
+        Err(r) => u8::from(r) as usize == refusal,
     }
 }
 
-// A build, from the image or from the words of a table.
-fn answer(
-    from_image: bool,
-    table: &[u16],
-    image: &[u8],
-    graph: &mut [u16],
-    errors: &mut [u16],
-) -> BuildAnswer {
-    if from_image {
-        graph::image::from_image(image, graph, errors)
-    } else {
-        graph::new::new(table, graph, errors)
-    }
-}
-
-fn filled_alike(
+// A build, from the words of a table or from its image, whose answer has this refusal, and which leaves these buffers.
+fn call_alike<F: Fn(&mut [u16], &mut [u16]) -> Result<Counts, Refusal>>(
     case: &[u8],
-    from_image: bool,
     refusal: usize,
-    table: &[u16],
-    image: &[u8],
-    graph: &mut [u16],
-    errors: &mut [u16],
     graph_after: &[u16],
     errors_after: &[u16],
-) -> bool {
-    let a = answer(from_image, table, image, graph, errors);
-    answer_alike(a, refusal, case)
-        && vectors::words::same(graph, graph_after)
-        && vectors::words::same(errors, errors_after)
-}
-
-fn call_alike(
-    case: &[u8],
-    from_image: bool,
-    refusal: usize,
-    table: &[u16],
-    image: &[u8],
-    graph_after: &[u16],
-    errors_after: &[u16],
-) -> bool {
+    build: F,
+) -> bool
+    requires { F.IsAlwaysCallable build }
+{
     let mut graph = graph_room(pattern(case));
     let mut errors = error_room(pattern(case));
     let g = graph_after.len();
     let e = errors_after.len();
-    if graph.len() < g {
+    if graph.len() < g || errors.len() < e {
         return false;
     }
-    if errors.len() < e {
-        return false;
-    }
-    filled_alike(
-        case,
-        from_image,
-        refusal,
-        table,
-        image,
-        &mut graph[0..g],
-        &mut errors[0..e],
-        graph_after,
-        errors_after,
-    )
+    let answer = build(&mut graph[..g], &mut errors[..e]);
+    answer_alike(answer, refusal, case)
+        && same(&graph[..g], graph_after)
+        && same(&errors[..e], errors_after)
 }
 
 // ---- a case: what has no room in the buffers differs
@@ -157,26 +105,15 @@ fn image_alike(case: &[u8], table: &[u16], graph_after: &[u16], errors_after: &[
     let image = vectors::part(&room, 0, n);
     let graph = graph_room(pattern(case));
     let errors = error_room(pattern(case));
+    let build = |graph: &mut [u16], errors: &mut [u16]| graph::image::from_image(
+        image, graph, errors,
+    );
     if kind(case) == 10 {
-        call_alike(
-            case,
-            true,
-            13,
-            table,
-            image,
-            front(&graph, graph_after.len()),
-            front(&errors, errors_after.len()),
-        )
+        let graph_before = front(&graph, graph_after.len());
+        let errors_before = front(&errors, errors_after.len());
+        call_alike(case, 13, graph_before, errors_before, build)
     } else {
-        call_alike(
-            case,
-            true,
-            kind(case),
-            table,
-            image,
-            graph_after,
-            errors_after,
-        )
+        call_alike(case, kind(case), graph_after, errors_after, build)
     }
 }
 
@@ -184,25 +121,26 @@ pub(crate) fn alike(case: &[u8]) -> bool {
     let mut table = table_room();
     let mut graph = graph_room(0);
     let mut errors = error_room(0);
-    let n = vectors::cases::words(case, 0, &mut table);
-    let g = vectors::cases::words(case, 2, &mut graph);
-    let e = vectors::cases::words(case, 3, &mut errors);
+    let Some(n) = words(case, 0, &mut table) else {
+        return false;
+    };
+    let Some(g) = words(case, 2, &mut graph) else {
+        return false;
+    };
+    let Some(e) = words(case, 3, &mut errors) else {
+        return false;
+    };
     let given = front(&table, n);
     let graph_after = front(&graph, g);
     let errors_after = front(&errors, e);
     vectors::cases::shaped(case, 6, 4)
         && part(case, 1).len() <= 1
-        && n <= table.len()
-        && g <= graph.len()
-        && e <= errors.len()
         && call_alike(
             case,
-            false,
             number(case, 1),
-            given,
-            part(case, 1),
             graph_after,
             errors_after,
+            |graph: &mut [u16], errors: &mut [u16]| graph::new::new(given, graph, errors),
         )
         && image_alike(case, given, graph_after, errors_after)
 }

@@ -1,23 +1,35 @@
 // A class: its ranges, its comparisons, its cost; and the operations that a comparison counts.
+use classes::byte_class::Comparison;
 use vectors::cases::{number, part, shaped};
 use vectors::parts::padded;
+
+// A field of each entry: the list has each field by itself.
+fn column<T: Copy, F: Fn(T) -> u8>(entries: &[T; 128], field: F) -> [u8; 128]
+    requires { F.IsAlwaysCallable field }
+{
+    let mut bytes = [0u8; 128];
+    for (byte, &entry) in bytes.iter_mut().zip(entries) {
+        *byte = field(entry);
+    }
+    bytes
+}
 
 fn ranges_alike(class: &[bool; 256], case: &[u8]) -> bool {
     let held = classes::byte_class::ranges(class);
     held.count == part(case, 1).len()
-        && padded(&held.first, part(case, 1), 0)
+        && padded(&column(&held.ranges, |range| range.first), part(case, 1), 0)
         && held.count == part(case, 2).len()
-        && padded(&held.last, part(case, 2), 0)
+        && padded(&column(&held.ranges, |range| range.last), part(case, 2), 0)
 }
 
 fn comparisons_alike(class: &[bool; 256], case: &[u8]) -> bool {
     let cmp = classes::byte_class::impl_with_cmp(class);
     cmp.count == part(case, 3).len()
-        && padded(&cmp.first, part(case, 3), 0)
+        && padded(&column(&cmp.list, |entry| entry.first), part(case, 3), 0)
         && cmp.count == part(case, 4).len()
-        && padded(&cmp.last, part(case, 4), 0)
+        && padded(&column(&cmp.list, |entry| entry.last), part(case, 4), 0)
         && cmp.count == part(case, 5).len()
-        && padded(&cmp.holes, part(case, 5), 0)
+        && padded(&column(&cmp.list, |entry| entry.holes), part(case, 5), 0)
         && padded(&cmp.except, part(case, 6), 0)
 }
 
@@ -31,19 +43,15 @@ pub(crate) fn alike(case: &[u8]) -> bool {
 }
 
 // A comparison's first and last byte and its number of exceptions; bytes, or it is none.
-fn ops(first: usize, last: usize, exceptions: usize) -> usize {
-    if 255 < first {
-        return 0;
-    }
-    if 255 < last {
-        return 0;
-    }
-    if 255 < exceptions {
-        return 0;
-    }
-    classes::byte_class::count_ops(first as u8, last as u8, exceptions as u8)
+fn comparison(case: &[u8]) -> Option<Comparison> {
+    Some(Comparison {
+        first: u8::try_from(number(case, 0)).ok()?,
+        last: u8::try_from(number(case, 1)).ok()?,
+        holes: u8::try_from(number(case, 2)).ok()?,
+    })
 }
 
 pub(crate) fn ops_alike(case: &[u8]) -> bool {
-    shaped(case, 4, 0) && ops(number(case, 0), number(case, 1), number(case, 2)) == number(case, 3)
+    shaped(case, 4, 0)
+        && comparison(case).is_some_and(|c| classes::byte_class::count_ops(c) == number(case, 3))
 }

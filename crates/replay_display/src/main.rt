@@ -4,32 +4,17 @@
 
 mod text_cases;
 
-use vectors::walk::Walk;
-
 fn main() {
-    let mut space = vectors::space();
-    let n = io::read_full(0, &mut space);
-    let list = &space[..n];
-    let w = replay(list);
-    let mut out = vectors::report::room();
-    let size = vectors::report::report(b"graphs\nerror lines\n", list, w, &mut out);
-    io::write_all(1, &out[..size]);
-}
-
-fn replay(list: &[u8]) -> Walk {
-    let mut w = vectors::walk::begun(2);
-    while w.at < list.len() {
-        let same = alike(vectors::walk::next(list, w), w.cases);
-        w = vectors::walk::noted(list, w, same);
-    }
-    w
+    vectors::replay::run(b"graphs\nerror lines\n", 2, |turn| {
+        alike(turn.case, turn.number)
+    });
 }
 
 // The case with number i.
 fn alike(case: &[u8], i: usize) -> bool {
     match vectors::cases::kind(case) {
-        0 => text_cases::alike(false, case, i),
-        1 => text_cases::alike(true, case, i),
+        0 => text_cases::alike(display::display, case, i),
+        1 => text_cases::alike(display::error_line, case, i),
         _ => false,
     }
 }

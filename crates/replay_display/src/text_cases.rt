@@ -1,6 +1,6 @@
-// A case: words in runs, those of a graph or of an error, and the text of them.
-use display::Shown;
-use vectors::parts::padded;
+// A case: words in runs, those of a graph or of an error, and the text of them. The call that writes the text is a parameter.
+use refusals::Refusal;
+use vectors::parts::{filled, written};
 use vectors::words::front;
 
 // Room for the words of a graph of 1,024 states and of one more.
@@ -8,80 +8,80 @@ fn word_room() -> [u16; 265216] {
     [0; 265216]
 }
 
-// Room for a text, filled with a byte.
-fn text_room(fill: u8) -> [u8; 65536] {
-    [fill; 65536]
-}
-
-fn shown(errors: bool, words: &[u16], out: &mut [u8]) -> Shown {
-    if errors {
-        display::error_line(words, out)
-    } else {
-        display::display(words, out)
-    }
-}
-
 // What a call is said to answer: a refusal; or 0, and the text.
-fn answer_alike(shown: Shown, refusal: usize, text: &[u8]) -> bool {
-    match shown {
-        Shown::Bytes(n) => refusal == 0 && n == text.len(),
-        Shown::Refused(r) => refusal != 0 && r as usize == refusal,
+fn answer_alike(answer: Result<usize, Refusal>, refusal: usize, text: &[u8]) -> bool {
+    match answer {
+        Ok(n) => refusal == 0 && n == text.len(),
+        Err(r) => refusal == u8::from(r) as usize,
     }
 }
 
-// A call with a buffer, which is filled with a byte: the text, and the rest unchanged; or the refusal, and all unchanged. It is 29 where the text has
-// no room.
-fn filled_alike(
-    errors: bool,
+// A call with a buffer that is as before case i: the text, and the rest unchanged; or the refusal, and all unchanged. It is 29 where the text has no
+// room.
+fn filled_alike<F: Fn(&[u16], &mut [u8]) -> Result<usize, Refusal>>(
+    call: &F,
     words: &[u16],
     refusal: usize,
     text: &[u8],
-    fill: u8,
+    i: usize,
     out: &mut [u8],
-) -> bool {
-    let answer = shown(errors, words, out);
+) -> bool
+    requires { F.IsAlwaysCallable call.now }
+{
+    let answer = call(words, out);
     if out.len() < text.len() {
-        return answer_alike(answer, 29, text) && padded(out, &text[..0], fill);
+        return answer_alike(answer, 29, text) && written(out, &text[..0], &filled(i));
     }
-    answer_alike(answer, refusal, text) && padded(out, text, fill)
+    answer_alike(answer, refusal, text) && written(out, text, &filled(i))
 }
 
 // A call with a buffer of `room` bytes.
-fn call_alike(
-    errors: bool,
+fn call_alike<F: Fn(&[u16], &mut [u8]) -> Result<usize, Refusal>>(
+    call: &F,
     words: &[u16],
     refusal: usize,
     text: &[u8],
-    fill: u8,
+    i: usize,
     room: usize,
-) -> bool {
-    let mut out = text_room(fill);
+) -> bool
+    requires { F.IsAlwaysCallable call.now }
+{
+    let mut out = filled(i);
     if out.len() < room {
         return false;
     }
-    filled_alike(errors, words, refusal, text, fill, &mut out[0..room])
+    filled_alike(call, words, refusal, text, i, &mut out[..room])
 }
 
 // A long buffer, one that the text just fits, and one that is a byte shorter.
-fn calls_alike(errors: bool, words: &[u16], refusal: usize, text: &[u8], fill: u8) -> bool {
+fn calls_alike<F: Fn(&[u16], &mut [u8]) -> Result<usize, Refusal>>(
+    call: &F,
+    words: &[u16],
+    refusal: usize,
+    text: &[u8],
+    i: usize,
+) -> bool
+    requires { F.IsAlwaysCallable call.now }
+{
     let n = text.len();
-    let long = call_alike(errors, words, refusal, text, fill, 65536);
-    let exact = call_alike(errors, words, refusal, text, fill, n);
-    long && exact && (n == 0 || call_alike(errors, words, refusal, text, fill, n - 1))
+    let long = call_alike(call, words, refusal, text, i, 65536);
+    let exact = call_alike(call, words, refusal, text, i, n);
+    long && exact && (n == 0 || call_alike(call, words, refusal, text, i, n - 1))
 }
 
-// What the buffers of a case are filled with: a byte that no text has.
-fn pattern(i: usize) -> u8 {
-    128 + (i % 128) as u8
-}
-
-// The case with number i; its words are those of an error where `errors` says so.
-pub(crate) fn alike(errors: bool, case: &[u8], i: usize) -> bool {
+// The case with number i, by the call that writes its text.
+pub(crate) fn alike<F: Fn(&[u16], &mut [u8]) -> Result<usize, Refusal> + Drop>(
+    call: F,
+    case: &[u8],
+    i: usize,
+) -> bool
+    requires { F.IsAlwaysCallable call }
+{
     let mut room = word_room();
-    let n = vectors::cases::words(case, 0, &mut room);
+    let Some(n) = vectors::cases::words(case, 0, &mut room) else {
+        return false;
+    };
     let refusal = vectors::cases::number(case, 0);
     let text = vectors::cases::part(case, 1);
-    vectors::cases::shaped(case, 1, 2)
-        && n <= room.len()
-        && calls_alike(errors, front(&room, n), refusal, text, pattern(i))
+    vectors::cases::shaped(case, 1, 2) && calls_alike(&call, front(&room, n), refusal, text, i)
 }

@@ -1,48 +1,14 @@
 // A text listed by the plan with `scan_planned`, beside `scan_list`, which walks the graph: both go into buffers that are filled with the same
 // words, and must leave the same.
 use mask_store::MaskStore;
-use plans::list::ListAnswer;
 use plans::scan::{Place, Scan};
-use vectors::words::same_entries;
+use vectors::words::same;
 
 // What a buffer is filled with before a call: no entry has such a number.
 const FOUND: usize = 12297829382473034410;
 
-// Where a scan stands that has ended.
-const ENDED: usize = 18446744073709551615;
-
-// What is added to the number of a refusal: no list has so many entries.
-const REFUSED: usize = 4294967296;
-
-fn small_room() -> [usize; 16] {
-    [FOUND; 16]
-}
-
-fn large_room() -> [usize; 1024] {
-    [FOUND; 1024]
-}
-
-// Where a scan stands.
-fn place(scan: Scan) -> usize {
-    let place = scan.place;
-    match place {
-        Place::Reading(at) => at,
-        Place::Ended => ENDED,
-    }
-}
-
-fn answer_number(answer: ListAnswer) -> usize {
-    match answer {
-        ListAnswer::Listed(n) => n,
-        ListAnswer::Refused(r) => REFUSED + r as usize,
-    }
-}
-
-fn refused(answer: ListAnswer, refusal: usize) -> bool {
-    match answer {
-        ListAnswer::Listed(_) => false,
-        ListAnswer::Refused(r) => r as usize == refusal,
-    }
+fn room<const N: usize>() -> [usize; N] {
+    [FOUND; N]
 }
 
 // Whether a call by the plan is refused by that number, and the scan and the buffer are as they were.
@@ -54,11 +20,14 @@ fn refuses(
     text: &[u8],
     refusal: usize,
 ) -> bool {
-    let unseen = small_room();
-    let mut out = small_room();
+    let unseen = room::<16>();
+    let mut out = room::<16>();
     let l = plans::planned::scan_planned(scan, graph, plan, store, text, &mut out);
-    let answer = l.answer;
-    refused(answer, refusal) && place(l.scan) == place(scan) && same_entries(&out, &unseen)
+    let refused = match l.answer {
+        Ok(_) => false,
+        Err(r) => u8::from(r) as usize == refusal,
+    };
+    refused && l.scan == scan && same(&out, &unseen)
 }
 
 fn past(text: &[u8]) -> Scan {
@@ -86,34 +55,22 @@ pub(crate) fn all_refuse(
 
 // ---- a text that is listed
 
-// Between two calls: the scan, and whether all was alike so far.
-#[derive(Clone, Copy)]
-struct Spot {
-    pub scan: Scan,
-    pub same: bool,
-}
-
-// A call of each from the same scan.
+// A call of each from the same scan: the scan after it, if both answered and left the same.
 fn call(
     graph: &[u16],
     plan: &[u16],
     store: MaskStore,
     text: &[u8],
-    spot: Spot,
+    scan: Scan,
     walked: &mut [usize],
     planned: &mut [usize],
-) -> Spot {
-    let w = plans::list::scan_list(spot.scan, graph, text, walked);
-    let p = plans::planned::scan_planned(spot.scan, graph, plan, store, text, planned);
-    let by_walk = w.answer;
-    let by_plan = p.answer;
-    let next = p.scan;
-    Spot {
-        scan: next,
-        same: spot.same
-            && answer_number(by_walk) == answer_number(by_plan)
-            && place(w.scan) == place(next)
-            && same_entries(walked, planned),
+) -> Option<Scan> {
+    let w = plans::list::scan_list(scan, graph, text, walked);
+    let p = plans::planned::scan_planned(scan, graph, plan, store, text, planned);
+    if w.answer == p.answer && w.scan == p.scan && same(walked, planned) {
+        Some(p.scan)
+    } else {
+        None
     }
 }
 
@@ -123,45 +80,44 @@ fn turn(
     plan: &[u16],
     store: MaskStore,
     text: &[u8],
-    spot: Spot,
+    scan: Scan,
     size: usize,
-) -> Spot {
-    if place(spot.scan) == ENDED {
-        return spot;
+) -> Option<Scan> {
+    if scan.place == Place::Ended {
+        return Some(scan);
     }
-    let mut walked = large_room();
-    let mut planned = large_room();
+    let mut walked = room::<1024>();
+    let mut planned = room::<1024>();
     if walked.len() < size {
-        return spot;
+        return None;
     }
     call(
         graph,
         plan,
         store,
         text,
-        spot,
-        &mut walked[0..size],
-        &mut planned[0..size],
+        scan,
+        &mut walked[..size],
+        &mut planned[..size],
     )
 }
 
-fn first() -> Spot {
-    Spot {
-        scan: Scan::new(),
-        same: true,
+// The scan after all of the text, in as many calls as it takes: each passes a byte or ends.
+fn listed(graph: &[u16], plan: &[u16], store: MaskStore, text: &[u8], size: usize) -> Option<Scan> {
+    let mut scan = Scan::new();
+    for _ in 0..=text.len() {
+        scan = turn(graph, plan, store, text, scan, size)?;
     }
+    Some(scan)
 }
 
-// All of the text into buffers, in as many calls as it takes: each passes a byte or ends. Then 16, and 14 past the text.
+// All of the text into buffers. Then 16, and 14 past the text.
 fn into_buffers(graph: &[u16], plan: &[u16], store: MaskStore, text: &[u8], size: usize) -> bool {
-    let most = text.len() + 1;
-    let mut spot = first();
-    for k in 0..most {
-        spot = turn(graph, plan, store, text, spot, size);
-    }
-    spot.same
-        && place(spot.scan) == ENDED
-        && refuses(spot.scan, graph, plan, store, text, 16)
+    let Some(scan) = listed(graph, plan, store, text, size) else {
+        return false;
+    };
+    scan.place == Place::Ended
+        && refuses(scan, graph, plan, store, text, 16)
         && refuses(past(text), graph, plan, store, text, 14)
 }
 
@@ -172,9 +128,7 @@ pub(crate) fn alike(graph: &[u16], plan: &[u16], store: MaskStore, text: &[u8], 
         return false;
     }
     let spare = i % 3;
-    let none = turn(graph, plan, store, text, first(), spare);
-    none.same
-        && place(none.scan) == 0
+    turn(graph, plan, store, text, Scan::new(), spare) == Some(Scan::new())
         && into_buffers(graph, plan, store, text, 3 * text.len() + 3 + spare)
         && into_buffers(graph, plan, store, text, 3 + i % 10)
 }

@@ -6,43 +6,45 @@ mod listings;
 mod plan;
 mod run;
 
+use plans::plan::{plan_by_loan, plan_by_value};
 use vectors::cases::kind;
-use vectors::walk::Walk;
+use vectors::replay::Turn;
 
 fn main() {
-    let mut space = vectors::space();
-    let n = io::read_full(0, &mut space);
-    let list = &space[..n];
-    let w = replay(list);
-    let mut out = vectors::report::room();
-    let size = vectors::report::report(
+    vectors::replay::run(
         b"planned:\nrefused 12:\nrefused 14:\nrefused 15:\nruns:\nruns refused:\n",
-        list,
-        w,
-        &mut out,
+        4,
+        |turn| alike(turn),
     );
-    io::write_all(1, &out[..size]);
 }
 
-fn replay(list: &[u8]) -> Walk {
-    let mut w = vectors::walk::begun(4);
-    while w.at < list.len() {
-        let host = vectors::walk::host(list, w);
-        let same = alike(host, vectors::walk::next(list, w), w.cases);
-        w = vectors::walk::noted(list, w, same);
-    }
-    w
-}
-
-// The case with number i; a run belongs to the planning before it.
-fn alike(host: &[u8], case: &[u8], i: usize) -> bool {
-    match kind(case) {
-        0 => plan::alike(case, 0, i),
-        1 => plan::alike(case, 12, i),
-        2 => plan::alike(case, 14, i),
-        3 => plan::alike(case, 15, i),
-        4 => kind(host) == 0 && run::alike(host, case, i),
-        5 => kind(host) == 0 && run::alike(host, case, i),
-        _ => false,
+// A run belongs to the planning before it. Planning goes by value on the first buffer and by a loan on the second, or the other way round, in turn.
+fn alike(turn: Turn<'_>) -> bool {
+    let refusal = match kind(turn.case) {
+        0 => 0,
+        1 => 12,
+        2 => 14,
+        3 => 15,
+        4 | 5 => {
+            return kind(turn.host) == 0 && run::alike(turn.host, turn.case, turn.number);
+        }
+        _ => return false,
+    };
+    if turn.number % 2 == 1 {
+        plan::alike(
+            turn.case,
+            refusal,
+            turn.number,
+            |graph: &[u16], out: &mut [u16], store| plan_by_loan(graph, out, store),
+            |graph: &[u16], out: &mut [u16], store| plan_by_value(graph, out, store),
+        )
+    } else {
+        plan::alike(
+            turn.case,
+            refusal,
+            turn.number,
+            |graph: &[u16], out: &mut [u16], store| plan_by_value(graph, out, store),
+            |graph: &[u16], out: &mut [u16], store| plan_by_loan(graph, out, store),
+        )
     }
 }

@@ -1,46 +1,34 @@
 // Runs by a plan, against the stored outcomes, and beside the walk of the graph.
-use graph::read::Read;
+use graph_rules::Found;
 use mask_store::MaskStore;
+use refusals::Refusal;
 use vectors::cases::{number, part};
 use vectors::words::front;
 
-// What is added to the number of a refusal: no reading is so large a number.
-const REFUSED: usize = 4294967296;
-
-// A token as the list has it.
-fn token(leaf: usize, end: usize) -> usize {
-    if 65534 < leaf {
-        return REFUSED;
-    }
-    if 65535 < end {
-        return REFUSED;
-    }
-    leaf + 65536 * end
-}
-
-// A reading as the list has it.
-fn read_number(answer: Read) -> usize {
+// An answer with the number of its refusal.
+fn told(answer: Result<Option<Found>, Refusal>) -> Result<Option<Found>, usize> {
     match answer {
-        Read::Found(leaf, end) => token(leaf, end),
-        Read::Nothing => 65535,
-        Read::Refused(r) => REFUSED + r as usize,
+        Ok(reading) => Ok(reading),
+        Err(r) => Err(u8::from(r) as usize),
     }
 }
 
-fn refused(answer: Read, refusal: usize) -> bool {
-    match answer {
-        Read::Found(_, _) => false,
-        Read::Nothing => false,
-        Read::Refused(r) => r as usize == refusal,
+// A reading as the list has it: its leaf, and its end in the upper half; 65,535 for none.
+fn reading(word: usize) -> Option<Found> {
+    if word == 65535 {
+        return None;
     }
+    Some(Found {
+        leaf: word % 65536,
+        end: word / 65536,
+    })
 }
 
-// The outcome of a run: its refusal, or its reading, which is none where it is refused.
-fn outcome(case: &[u8]) -> usize {
-    if number(case, 4) == 0 {
-        number(case, 5)
-    } else {
-        REFUSED + number(case, 4)
+// The outcome of a run: its refusal, or its reading.
+fn outcome(case: &[u8]) -> Result<Option<Found>, usize> {
+    match number(case, 4) {
+        0 => Ok(reading(number(case, 5))),
+        r => Err(r),
     }
 }
 
@@ -50,14 +38,14 @@ fn with_more(store: MaskStore, bytes: &[u8]) -> MaskStore {
     added.store
 }
 
-// The plan of a case in the front of a buffer, with the word that a run changes: how many words the buffer holds.
-fn give(host: &[u8], case: &[u8], plan: &mut [u16]) -> usize {
-    let n = vectors::cases::words(host, 3, plan);
+// The plan of a case in the front of a buffer, with the word that a run changes: how many words the plan has.
+fn give(host: &[u8], case: &[u8], plan: &mut [u16]) -> Option<usize> {
+    let n = vectors::cases::words(host, 3, plan)?;
     let i = number(case, 2);
     if i < plan.len() {
         plan[i] = (number(case, 3) % 65536) as u16;
     }
-    n
+    Some(n)
 }
 
 // Run i by the words that it is given; and by more words, if it is given all of the plan, and a store with a class more, if it has the one that planning
@@ -78,9 +66,9 @@ fn by_plan(
         crate::plan::before(host)
     };
     let wider = if grown { with_more(store, text) } else { store };
-    let by_walk = read_number(graph::read::read_graph(graph, text));
-    read_number(plans::run::run(graph, given, store, text)) == outcome(case)
-        && read_number(plans::run::run(graph, longer, wider, text)) == outcome(case)
+    let by_walk = told(graph::read::read_graph(graph, text));
+    told(plans::run::run(graph, given, store, text)) == outcome(case)
+        && told(plans::run::run(graph, longer, wider, text)) == outcome(case)
         && (if number(case, 4) == 0 {
             by_walk == outcome(case) && crate::listings::alike(graph, given, store, text, i)
         } else {
@@ -92,9 +80,13 @@ fn by_plan(
 // The run with number i.
 pub(crate) fn alike(host: &[u8], case: &[u8], i: usize) -> bool {
     let mut room = crate::plan::graph_room();
-    let n = vectors::cases::words(host, 0, &mut room);
+    let Some(n) = vectors::cases::words(host, 0, &mut room) else {
+        return false;
+    };
     let mut plan = crate::plan::plan_room(crate::plan::pattern(host));
-    let held = give(host, case, &mut plan);
+    let Some(held) = give(host, case, &mut plan) else {
+        return false;
+    };
     let words = number(case, 1);
     // the graph's first word, in its first run
     let states = vectors::half(part(host, 0), 2);
@@ -123,6 +115,6 @@ pub(crate) fn refused_alike(
     text: &[u8],
     refusal: usize,
 ) -> bool {
-    refused(plans::run::run(graph, plan, store, text), refusal)
+    told(plans::run::run(graph, plan, store, text)) == Err(refusal)
         && crate::listings::all_refuse(graph, plan, store, text, refusal)
 }

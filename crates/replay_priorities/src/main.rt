@@ -5,30 +5,12 @@
 mod literals;
 mod tree_cases;
 
-use vectors::walk::Walk;
-
 fn main() {
-    let mut space = vectors::space();
-    let n = io::read_full(0, &mut space);
-    let list = &space[..n];
-    let w = replay(list);
-    let mut out = vectors::report::room();
-    let size = vectors::report::report(
+    vectors::replay::run(
         b"rows of 256 literals\nstrings\ntrees\n",
-        list,
-        w,
-        &mut out,
+        3,
+        |turn| alike(turn.case),
     );
-    io::write_all(1, &out[..size]);
-}
-
-fn replay(list: &[u8]) -> Walk {
-    let mut w = vectors::walk::begun(3);
-    while w.at < list.len() {
-        let same = alike(vectors::walk::next(list, w));
-        w = vectors::walk::noted(list, w, same);
-    }
-    w
 }
 
 fn alike(case: &[u8]) -> bool {

@@ -1,28 +1,24 @@
 // A text listed into lent buffers by `scan_list`: in one call where there is room for all, else in several, each of which goes on with the scan
 // that the last one left.
-ghost use Rattle.std.specs.Prelude.{◌<◌, ◌≤◌};
+ghost use Rattle.std.specs.Prelude.{◌<◌};
 
-use crate::scan::{ENDED, begun, entry, place};
-use plans::list::ListAnswer;
-use plans::scan::Scan;
+use crate::scan::{begun, entry};
+use refusals::Refusal;
+use scans::list::{ENTRY, scan_list};
+use scans::scan::{Place, Scan};
 
 // What a buffer is filled with before a call: no entry has such a number.
 const FOUND: usize = 12297829382473034410;
 
-fn small_room() -> [usize; 16] {
-    [FOUND; 16]
+fn room<const N: usize>() -> [usize; N] {
+    [FOUND; N]
 }
 
-fn large_room() -> [usize; 16384] {
-    [FOUND; 16384]
-}
-
-// Between two calls: how many entries there were, the scan, and whether all was alike so far.
+// Between two calls: how many entries there were, and the scan.
 #[derive(Clone, Copy)]
 struct Spot {
     pub done: usize,
     pub scan: Scan,
-    pub same: bool,
 }
 
 // ---- a call
@@ -32,8 +28,8 @@ fn expected(entries: &[u8], done: usize, n: usize, k: usize) -> usize
     requires done_bound { done < 65536 }
     requires n_bound { n < 65536 }
 {
-    if k < 3 * n {
-        entry(entries, done + k / 3, k % 3)
+    if k < ENTRY * n {
+        entry(entries, done + k / ENTRY, k % ENTRY)
     } else {
         FOUND
     }
@@ -43,45 +39,26 @@ fn entries_alike(out: &[usize], entries: &[u8], done: usize, n: usize) -> bool
     requires done_bound { done < 65536 }
     requires n_bound { n < 65536 }
 {
-    let size = out.len();
-    for k in 0..size {
-        if out[k] != expected(entries, done, n, k) {
-            return false;
-        }
-    }
-    true
-}
-
-// Whether the answer is so many entries.
-fn listed(answer: ListAnswer, n: usize) -> bool {
-    match answer {
-        ListAnswer::Listed(k) => k == n,
-        ListAnswer::Refused(_) => false,
-    }
-}
-
-fn least(a: usize, b: usize) -> usize
-    ensures { result ≤ b }
-{
-    if a < b { a } else { b }
+    out.iter()
+        .enumerate()
+        .all(|(k, &word)| word == expected(entries, done, n, k))
 }
 
 // Where a scan from an offset stands that has listed so many entries, and had room for more or not.
-fn reached(entries: &[u8], offset: usize, done: usize, more: bool) -> usize
+fn reached(entries: &[u8], offset: usize, done: usize, more: bool) -> Place
     requires { done < 65536 }
 {
     if more {
-        return ENDED;
-    }
-    if done == 0 {
-        offset
+        Place::Ended
+    } else if done == 0 {
+        Place::Reading(offset)
     } else {
-        entry(entries, done - 1, 1)
+        Place::Reading(entry(entries, done - 1, 1))
     }
 }
 
 // The next call from a scan that began at an offset: as many entries as there is room for, or as are left. It has ended if there was room for more, and
-// else reads on.
+// else reads on. None: it isn't so.
 fn call(
     graph: &[u16],
     text: &[u8],
@@ -89,34 +66,22 @@ fn call(
     entries: &[u8],
     spot: Spot,
     out: &mut [usize],
-) -> Spot {
+) -> Option<Spot> {
     let total = entries.len() / 12;
-    let done = spot.done;
-    if 65535 < total {
-        return lost(spot);
+    if 65535 < total || total < spot.done {
+        return None;
     }
-    if total < done {
-        return lost(spot);
-    }
-    let room = out.len() / 3;
-    let n = least(room, total - done);
-    let l = plans::list::scan_list(spot.scan, graph, text, out);
-    let next = l.scan;
-    let stands = place(next) == reached(entries, offset, done + n, n < room);
-    Spot {
-        done: done + n,
-        scan: next,
-        same: spot.same && listed(l.answer, n) && stands && entries_alike(out, entries, done, n),
-    }
-}
-
-// A call that is not made.
-fn lost(spot: Spot) -> Spot {
-    let scan = spot.scan;
-    Spot {
-        done: spot.done,
-        scan: scan,
-        same: false,
+    let room = out.len() / ENTRY;
+    let n = room.min(total - spot.done);
+    let done = spot.done + n;
+    let l = scan_list(spot.scan, graph, text, out);
+    let same = l.answer == Ok(n)
+        && l.scan.place == reached(entries, offset, done, n < room)
+        && entries_alike(out, entries, spot.done, n);
+    if same {
+        Some(Spot { done, scan: l.scan })
+    } else {
+        None
     }
 }
 
@@ -128,28 +93,24 @@ fn turn(
     entries: &[u8],
     spot: Spot,
     size: usize,
-) -> Spot {
+) -> Option<Spot> {
     if size < 16 {
-        let mut out = small_room();
-        return call(graph, text, offset, entries, spot, &mut out[0..size]);
+        let mut out = room::<16>();
+        return call(graph, text, offset, entries, spot, &mut out[..size]);
     }
-    let mut out = large_room();
+    let mut out = room::<16384>();
     if out.len() < size {
-        return lost(spot);
+        return None;
     }
-    call(graph, text, offset, entries, spot, &mut out[0..size])
+    call(graph, text, offset, entries, spot, &mut out[..size])
 }
 
-// Whether a call is refused by that number, of `Scan::next` and of `scan_list`, and the scan and the buffer are as they were.
-pub(crate) fn refused(scan: Scan, graph: &[u16], text: &[u8], refusal: usize) -> bool {
-    let mut out = small_room();
-    let l = plans::list::scan_list(scan, graph, text, &mut out);
-    let answer = l.answer;
-    let same = match answer {
-        ListAnswer::Listed(_) => false,
-        ListAnswer::Refused(n) => n as usize == refusal,
-    };
-    same && place(l.scan) == place(scan)
+// Whether a call is refused so, of `Scan::next` and of `scan_list`, and the scan and the buffer are as they were.
+pub(crate) fn refused(scan: Scan, graph: &[u16], text: &[u8], refusal: Refusal) -> bool {
+    let mut out = room::<16>();
+    let l = scan_list(scan, graph, text, &mut out);
+    l.answer == Err(refusal)
+        && l.scan == scan
         && entries_alike(&out, text, 0, 0)
         && crate::scan::refused(scan, graph, text, refusal)
 }
@@ -160,7 +121,6 @@ fn first(offset: usize) -> Spot {
     Spot {
         done: 0,
         scan: begun(offset),
-        same: true,
     }
 }
 
@@ -174,19 +134,22 @@ fn calls_alike(
     calls: usize,
 ) -> bool {
     let mut spot = first(offset);
-    for k in 0..calls {
-        spot = turn(graph, text, offset, entries, spot, size);
+    for _ in 0..calls {
+        let Some(next) = turn(graph, text, offset, entries, spot, size) else {
+            return false;
+        };
+        spot = next;
     }
-    spot.same && place(spot.scan) == ENDED && refused(spot.scan, graph, text, 16)
+    spot.scan.place == Place::Ended && refused(spot.scan, graph, text, Refusal::ScanEnded)
 }
 
 // All entries into buffers of `size` words, in as many calls as it takes.
 fn into_buffers(graph: &[u16], text: &[u8], offset: usize, entries: &[u8], size: usize) -> bool {
-    let room = size / 3;
+    let room = size / ENTRY;
     if room == 0 {
         return false;
     }
-    let calls = least(entries.len() / 12 / room, 65535) + 1;
+    let calls = (entries.len() / 12 / room).min(65535) + 1;
     calls_alike(graph, text, offset, entries, size, calls)
 }
 
@@ -195,8 +158,7 @@ fn into_buffers(graph: &[u16], text: &[u8], offset: usize, entries: &[u8], size:
 pub(crate) fn alike(graph: &[u16], text: &[u8], offset: usize, entries: &[u8], i: usize) -> bool {
     let spare = i % 3;
     let exact = entries.len() / 12 * 3;
-    let none = turn(graph, text, offset, entries, first(offset), spare);
-    none.same
+    turn(graph, text, offset, entries, first(offset), spare).is_some()
         && into_buffers(graph, text, offset, entries, exact + 3 + spare)
         && (exact == 0 || into_buffers(graph, text, offset, entries, exact))
         && into_buffers(graph, text, offset, entries, 3 + i % 10)

@@ -9,40 +9,23 @@ mod tables;
 mod text_cases;
 
 use vectors::cases::kind;
-use vectors::walk::Walk;
+use vectors::replay::Turn;
 
 fn main() {
-    let mut space = vectors::space();
-    let n = io::read_full(0, &mut space);
-    let list = &space[..n];
-    let w = replay(list);
-    let mut out = vectors::report::room();
-    let size = vectors::report::report(
+    vectors::replay::run(
         b"tables\ngraphs\ntexts of tables\ntexts of graphs\n",
-        list,
-        w,
-        &mut out,
+        2,
+        |turn| alike(turn),
     );
-    io::write_all(1, &out[..size]);
 }
 
-fn replay(list: &[u8]) -> Walk {
-    let mut w = vectors::walk::begun(2);
-    while w.at < list.len() {
-        let host = vectors::walk::host(list, w);
-        let same = alike(host, vectors::walk::next(list, w), w.cases);
-        w = vectors::walk::noted(list, w, same);
-    }
-    w
-}
-
-// The case with number i; a text belongs to a table or a graph before it.
-fn alike(host: &[u8], case: &[u8], i: usize) -> bool {
-    match kind(case) {
-        0 => tables::alike(case),
-        1 => text_cases::graph_alike(case),
-        2 => kind(host) == 0 && text_cases::of_table(host, case, i),
-        3 => kind(host) == 1 && text_cases::of_graph(host, case, i),
+// A text belongs to a table or a graph before it.
+fn alike(turn: Turn<'_>) -> bool {
+    match kind(turn.case) {
+        0 => tables::alike(turn.case),
+        1 => text_cases::graph_alike(turn.case),
+        2 => kind(turn.host) == 0 && text_cases::of_table(turn.host, turn.case, turn.number),
+        3 => kind(turn.host) == 1 && text_cases::of_graph(turn.host, turn.case, turn.number),
         _ => false,
     }
 }

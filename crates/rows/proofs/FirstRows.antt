@@ -1,10 +1,9 @@
 -- The rows of the reached states, one after another (`Written`): what the loop that writes them keeps, and that with the words in front and zeros after
 -- them they are the words of the first graph (`written_all_lem`). Assumes nothing.
+use Rattle.std.specs.Prelude.{Option, unwrap_or}
 use mathlib.Core.Path.{◌≡◌, refl, sym, ap, ◌∙◌}
 use mathlib.Core.Bool.{Bool, false}
 use mathlib.Core.List.{List, [], ◌∷◌, ◌++◌, map, flat_map}
-use mathlib.Core.Option
-use mathlib.Core.Option.{Option}
 use Prim.Native.Nat.{ℕ, ◌+◌, ◌*◌, ◌-◌, ◌≤◌, ◌<◌}
 use native.Mathlib.Omega.{arith}
 use lib.ListN.{length, get_or, take, drop, replicate, length-append, length-replicate, length-map, get_or-append}
@@ -161,7 +160,7 @@ module _ (w : List ℕ) (legal : refusal w ≡ 0) (start : ℕ) (low : start < s
   root_is : graph.root ≡ count (take start set)
   unfolding restrict relabel whole_graph
   root_is =
-      ap (λ (o : Option ℕ). Option.get_or o 0) (number-count 0 keep start (found_in w legal start low start (found-start w legal start low)))
+      ap (λ (o : Option ℕ). unwrap_or o 0) (number-count 0 keep start (found_in w legal start low start (found-start w legal start low)))
       ∙ (let z : 0 + count (take start keep) ≡ count (take start keep) = omega arith in z)
       ∙ ap count (sym (set-take start (omega arith)))
 

@@ -1,9 +1,8 @@
 -- A row's words, one by one: what the loop that writes a row shows (`row_target`, `row-marks`), and that they are the words of the renamed state, where
 -- the state is reached and the numbers are those of the reached states (`row_is`). Assumes nothing.
+use Rattle.std.specs.Prelude.{Option, Some, None, unwrap_or}
 use mathlib.Core.Path.{◌≡◌, refl, sym, ap, ◌∙◌}
 use mathlib.Core.List.{List, [], ◌∷◌, ◌++◌, map}
-use mathlib.Core.Option
-use mathlib.Core.Option.{Option, none, some}
 use Prim.Native.Nat.{ℕ, zero, suc, ◌+◌, ◌≤◌, ◌<◌, zero-le, suc-le-suc}
 use native.Mathlib.Omega.{arith}
 use borrow.Author.Tests.{eq-eqb, ne_eqb}
@@ -19,7 +18,7 @@ use Rattle.graph_rules.specs.Build.{reached, leaf_of, edge, first_state, renamed
 use Rattle.graph_rules.proofs.Flat.{step-word}
 use Rattle.graph_rules.proofs.Rename.{led}
 use Rattle.graph_rules.proofs.Counts.{row-width}
-use Rattle.legal.specs.Conditions.{states, target_word, Sized}
+use Rattle.legal.specs.Conditions.{states, Sized}
 use Rattle.rows.specs.Renumbering.{new_target, new_row}
 use Rattle.legal.proofs.Legal.{legal-sized}
 use Rattle.legal.proofs.Steps.{found_below, found-step, in-found, found_in}
@@ -42,33 +41,32 @@ module _ (w : List ℕ) (z : Sized w) (numbers : List ℕ) (s : ℕ) (h : s < st
   pub row-length : length (new_row (table_of w) numbers s) ≡ row_words
   unfolding new_row
   row-length =
-      length-append (map (new_target numbers) (row_of (table_of w) s).steps) ((marks_word (Option.get_or (leaf_of (table_of w) s) no_leaf) no_leaf) ∷ []) ∙ (let l = front_length in omega arith)
+      length-append (map (new_target numbers) (row_of (table_of w) s).steps) ((marks_word (unwrap_or (leaf_of (table_of w) s) no_leaf) no_leaf) ∷ []) ∙ (let l = front_length in omega arith)
 
-  pub row_target : (c : ℕ) → c < step_count → get_or (new_row (table_of w) numbers s) c 0 ≡ new_target numbers (target_word w s c)
+  pub row_target : (c : ℕ) → c < step_count → get_or (new_row (table_of w) numbers s) c 0 ≡ new_target numbers (step (table_of w) s c)
   unfolding new_row step
   row_target c b =
       let l = front_length in
       let k = row-width w z.exact s h in
       get_or-append (map (new_target numbers) (row_of (table_of w) s).steps) _ 0 c (omega arith)
       ∙ map_at (new_target numbers) (row_of (table_of w) s).steps c 0 0 (omega arith)
-      ∙ ap (new_target numbers) (step-word w s c h b)
 
-  pub row-marks : get_or (new_row (table_of w) numbers s) marks_place 0 ≡ marks_word (Option.get_or (leaf_of (table_of w) s) no_leaf) no_leaf
+  pub row-marks : get_or (new_row (table_of w) numbers s) marks_place 0 ≡ marks_word (unwrap_or (leaf_of (table_of w) s) no_leaf) no_leaf
   unfolding new_row
-  row-marks = get_or_at (map (new_target numbers) (row_of (table_of w) s).steps) (marks_word (Option.get_or (leaf_of (table_of w) s) no_leaf) no_leaf) [] 0 marks_place front_length
+  row-marks = get_or_at (map (new_target numbers) (row_of (table_of w) s).steps) (marks_word (unwrap_or (leaf_of (table_of w) s) no_leaf) no_leaf) [] 0 marks_place front_length
 
 -- ---- the words of the renamed state
 
-led-is : (names : List (Option ℕ)) (o : Option ℕ) → led names o ≡ elim o [ none ↦ none | some u ↦ get_or names u none ]
-led-is names none = refl
-led-is names (some u) = refl
+led-is : (names : List (Option ℕ)) (o : Option ℕ) → led names o ≡ elim o [ None ↦ None | Some u ↦ get_or names u None ]
+led-is names None = refl
+led-is names (Some u) = refl
 
 targets-are : (numbers : List ℕ) (names : List (Option ℕ)) (l : List ℕ)
-    → ((c : ℕ) → c < length l → new_target numbers (get_or l c 0) ≡ Option.get_or (led names (edge (get_or l c 0))) no_state)
-    → map (new_target numbers) l ≡ map (λ o. Option.get_or o no_state) (map (λ o. elim o [ none ↦ none | some u ↦ get_or names u none ]) (map edge l))
+    → ((c : ℕ) → c < length l → new_target numbers (get_or l c 0) ≡ unwrap_or (led names (edge (get_or l c 0))) no_state)
+    → map (new_target numbers) l ≡ map (λ o. unwrap_or o no_state) (map (λ o. elim o [ None ↦ None | Some u ↦ get_or names u None ]) (map edge l))
 targets-are numbers names [] f = refl
 targets-are numbers names (x ∷ l) f =
-    let a = f 0 (suc-le-suc zero-le) ∙ ap (λ (o : Option ℕ). Option.get_or o no_state) (led-is names (edge x)) in
+    let a = f 0 (suc-le-suc zero-le) ∙ ap (λ (o : Option ℕ). unwrap_or o no_state) (led-is names (edge x)) in
     let b = targets-are numbers names l (λ c h. f (suc c) (suc-le-suc h)) in
     λ i. a i ∷ b i
 
@@ -78,14 +76,14 @@ module _ (w : List ℕ) (legal : refusal w ≡ 0) (start : ℕ) (below : start <
   names = number_from 0 (reached (table_of w) start)
 
   -- a target that is reached
-  target_is : (u : ℕ) → In (reached (table_of w) start) u → new_target numbers u ≡ Option.get_or (led names (edge u)) no_state
+  target_is : (u : ℕ) → In (reached (table_of w) start) u → new_target numbers u ≡ unwrap_or (led names (edge u)) no_state
   target_is zero i = target-zero numbers 0 refl
   target_is (suc u) i =
       let l = found_below w legal start below (suc u) (in-found w legal start below (suc u) i) in
       target-other numbers (suc u) (λ e. omega arith)
       ∙ new (suc u) (omega arith)
       ∙ (let z : count (take (suc u) (reached (table_of w) start)) ≡ 0 + count (take (suc u) (reached (table_of w) start)) = omega arith in z)
-      ∙ ap (λ (o : Option ℕ). Option.get_or o no_state) (sym (number-count 0 (reached (table_of w) start) (suc u) i))
+      ∙ ap (λ (o : Option ℕ). unwrap_or o no_state) (sym (number-count 0 (reached (table_of w) start) (suc u) i))
 
   pub row_is : (s : ℕ) → In (reached (table_of w) start) s → new_row (table_of w) numbers s ≡ state_words (renamed names (first_state (table_of w) s))
   unfolding new_row state_words renamed first_state step
@@ -93,7 +91,7 @@ module _ (w : List ℕ) (legal : refusal w ≡ 0) (start : ℕ) (below : start <
       let r = in-found w legal start below s i in
       let h = found_below w legal start below s r in
       let l = row-width w (legal-sized w legal).exact s h in
-      ap (λ (f : List ℕ). f ++ ((marks_word (Option.get_or (leaf_of (table_of w) s) no_leaf) no_leaf) ∷ []))
+      ap (λ (f : List ℕ). f ++ ((marks_word (unwrap_or (leaf_of (table_of w) s) no_leaf) no_leaf) ∷ []))
       (targets-are numbers names (row_of (table_of w) s).steps
       (λ c b. let b' : c < step_count = omega arith in
       target_is _ (rw (step-word w s c h b') (found_in w legal start below _ (found-step w legal start below s c r b')))))

@@ -1,6 +1,5 @@
 -- The graph that rules 2 to 4 make, and a table's row as words of it, once every state has a new number. Definitions only.
-use Rattle.std.specs.Prelude.{true, false, List, [], ◌∷◌, ◌++◌, map, ℕ, eqb, get_or}
-use Rattle.std.proofs.Math.Option
+use Rattle.std.specs.Prelude.{true, false, List, [], ◌∷◌, ◌++◌, map, ℕ, eqb, get_or, unwrap_or}
 use Rattle.graph_rules.specs.Table.{Table, row_of}
 use Rattle.graph_rules.specs.Graph.{Graph}
 use Rattle.graph_rules.specs.Build.{reached, restrict, whole_graph, leaf_of}
@@ -16,4 +15,4 @@ new_target numbers u = elim (eqb u 0) [ true ↦ no_state | false ↦ get_or num
 
 -- the targets, and the marks word: the state's leaf, and no early leaf
 unfoldable pub new_row : Table → List ℕ → ℕ → List ℕ
-new_row t numbers s = map (new_target numbers) (row_of t s).steps ++ ((marks_word (Option.get_or (leaf_of t s) no_leaf) no_leaf) ∷ [])
+new_row t numbers s = map (new_target numbers) (row_of t s).steps ++ ((marks_word (unwrap_or (leaf_of t s) no_leaf) no_leaf) ∷ [])

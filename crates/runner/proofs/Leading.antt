@@ -1,163 +1,204 @@
 -- How a byte is led on by a state's plan words: the tests that they name are the ones that decide. Assumes nothing.
-use mathlib.Core.Path.{◌≡◌, refl, sym, ap, subst, ◌∙◌}
-use mathlib.Core.Bool.{Bool, true, false, false≢true}
-use mathlib.Core.List.{List, [], ◌∷◌}
-use mathlib.Core.Option
-use mathlib.Core.Option.{Option, none, some}
-use Prim.Native.Nat.{ℕ, zero, suc, ◌+◌, ◌-◌, ◌≤◌, ◌<◌}
-use native.Mathlib.Omega.{arith}
-use borrow.Author.Tests.{eqb-true, eqb-false}
-use lib.Dec.{eqb}
+use Rattle.std.proofs.Common.{◌≡◌, refl, sym, ap, subst, ◌∙◌, Bool, true, false, cond, List, [], ◌∷◌, ℕ, zero, suc, ◌+◌, ◌≤◌, ◌<◌, length, get_or, take, arith, Option, Some, None, IfSome, MatchOption, slice_get, eqb, eqb-true}
+use Rattle.std.proofs.lemmas.Bool.{eqb-false}
 use Rattle.lists.proofs.Bools.{Is, yes-is, no-is, is}
-use lib.ListN.{length, get_or}
-use Rattle.graph_rules.specs.Layout.{no_state, most_states}
-use Rattle.graph_rules.specs.Graph.{State, Graph, state_of, to, or_none, graph_from, graph_fits}
+use Rattle.graph_rules.specs.Layout.{most_states}
+use Rattle.graph_rules.specs.Graph.{State, Graph, state_of, to, graph_from}
 use Rattle.graph_rules.proofs.Flat.{from-length}
 use Rattle.graph_rules.proofs.Taken.{taken-few}
-use Rattle.graph_rules.proofs.Nones.{or-none, or-number}
-use Rattle.words.proofs.GraphWords.{edge_none as no_edge, edge-some}
-use Rattle.classes.specs.Classes.{comparisons, some_holds}
+use Rattle.classes.specs.Classes.{some_holds}
 use Rattle.mask_store.specs.Layout.{most_masks}
 use Rattle.mask_store.specs.Masks.{mask_has}
-use Rattle.edges.specs.Edges.{class_to}
-use Rattle.plan_rules.specs.Plan.{base, table_word, edge_place}
-use Rattle.plan_rows.proofs.Forks.{target_below}
+use Rattle.plan_rules.specs.declared.EdgeWord.{EdgeWord}
+use Rattle.plan_rules.specs.declared.EdgeWord.TheVariants.{Nothing, Tests, Mask, Table}
+use Rattle.plan_rules.specs.Plan.{base, table_word, own_place, edge_place, test_said, edge_said}
 use Rattle.plan_rules.specs.Run.{edge_takes, along, led_by, rows_of}
-use Rattle.runner.specs.Prepared.{targets_of, tests_at, edge_at, Prepared, PlanOn}
-use Rattle.runner.proofs.PlanRow.{led-table, led-edges, edge-absent, edge_few, edge-compared}
+use Rattle.plan_rows.proofs.Forks.{target_below}
+use Rattle.plan_rows.proofs.Words.{said-other}
+use Rattle.runner.specs.declared.planned.Planned.{Planned}
+use Rattle.runner.specs.Prepared.{no_edge, tests_of, targets_of, edge_at, led_along}
+use Rattle.runner.proofs.OnPlan.{self-few, led-table, led-edges, no_table, edge_few, edge-missing, edge-compared}
 
--- ---- along the first two edges of a state, where an edge that is not there has the word 0
+-- ---- along the first two edges of a state
 
 module _ (tables : List ℕ) (st : State) (b : ℕ) where
-  pub edge_none : (u w : ℕ) → w ≡ 0 → edge_takes tables st u w b ≡ false
-  edge_none u w e = rw e
+  no-words : (ts : List ℕ) → along tables st ts [] b ≡ None
+  no-words [] = refl
+  no-words (u ∷ ts) = refl
 
-  pub edge-tests : (u w : ℕ) → w ≡ 1 → edge_takes tables st u w b ≡ some_holds (comparisons (class_to st u)) b
-  edge-tests u w e = rw e
+  one-word : (ts : List ℕ) (v : ℕ) → along tables st ts (v ∷ []) b ≡ led_along tables st (slice_get ts 0) v b
+  one-word [] v = refl
+  one-word (u ∷ ts) v = go (edge_takes tables st u v b)
+    where
+      go : (t : Bool) → elim t [ true ↦ Some u | false ↦ along tables st ts [] b ] ≡ cond t (Some u) None
+      go true = refl
+      go false = no-words ts
 
-  pub edge-mask : (u w : ℕ) → (w ≡ 0 → ⊥) → (w ≡ 1 → ⊥) → edge_takes tables st u w b ≡ mask_has tables (w - 2) b
-  edge-mask u zero n m = absurd (n refl)
-  edge-mask u (suc zero) n m = absurd (m refl)
-  edge-mask u (suc (suc i)) n m = let e : i ≡ suc (suc i) - 2 = omega arith in ap (λ (x : ℕ). mask_has tables x b) e
+  along-first : (ts : List ℕ) (w v : ℕ) {u : ℕ} → led_along tables st (slice_get ts 0) w b ≡ Some u → along tables st ts (w ∷ v ∷ []) b ≡ Some u
+  along-first [] w v e = cc
+  along-first (x ∷ ts) w v {u} e = go (edge_takes tables st x w b) e
+    where
+      go : (t : Bool) → cond t (Some x) None ≡ Some u → elim t [ true ↦ Some x | false ↦ along tables st ts (v ∷ []) b ] ≡ Some u
+      go true q = q
+      go false q = cc
 
-  abbrev absent : ℕ → ℕ → ℕ → Type 0
-  absent j n w = n ≤ j → w ≡ 0
+  along-second : (ts : List ℕ) (w v : ℕ) → led_along tables st (slice_get ts 0) w b ≡ None → along tables st ts (w ∷ v ∷ []) b ≡ led_along tables st (slice_get ts 1) v b
+  along-second [] w v e = refl
+  along-second (x ∷ ts) w v e = go (edge_takes tables st x w b) e
+    where
+      go : (t : Bool) → ◌≡◌ {A = Option ℕ} (cond t (Some x) None) None → elim t [ true ↦ Some x | false ↦ along tables st ts (v ∷ []) b ] ≡ led_along tables st (slice_get ts 0) v b
+      go true q = cc
+      go false q = one-word ts v
 
-  along-first : (ts : List ℕ) (w v : ℕ) → absent 0 (length ts) w → edge_takes tables st (get_or ts 0 0) w b ≡ true
-      → along tables st ts (w ∷ v ∷ []) b ≡ some (get_or ts 0 0)
-  along-first [] w v a t = absurd (false≢true (sym (edge_none 0 w (a (omega arith))) ∙ t))
-  along-first (u ∷ ts) w v a t = rw (t, along)
+-- what a word that is no table's says
+is-nothing : (w : ℕ) → test_said w ≡ Nothing → w ≡ 0
+is-nothing zero e = refl
+is-nothing (suc zero) e = cc
+is-nothing (suc (suc i)) e = cc
 
-  along-second : (ts : List ℕ) (w v : ℕ) → absent 1 (length ts) v → edge_takes tables st (get_or ts 0 0) w b ≡ false
-      → edge_takes tables st (get_or ts 1 0) v b ≡ true → along tables st ts (w ∷ v ∷ []) b ≡ some (get_or ts 1 0)
-  along-second [] w v a f t = absurd (false≢true (sym (edge_none 0 v (a (omega arith))) ∙ t))
-  along-second (u ∷ []) w v a f t = absurd (false≢true (sym (edge_none 0 v (a (omega arith))) ∙ t))
-  along-second (u ∷ x ∷ ts) w v a f t = rw (f, t, along)
+is-tests : (w : ℕ) → test_said w ≡ Tests → w ≡ 1
+is-tests zero e = cc
+is-tests (suc zero) e = refl
+is-tests (suc (suc i)) e = cc
 
-  along-none : (ts : List ℕ) (w v : ℕ) → edge_takes tables st (get_or ts 0 0) w b ≡ false → edge_takes tables st (get_or ts 1 0) v b ≡ false
-      → along tables st ts (w ∷ v ∷ []) b ≡ none
-  along-none [] w v f t = refl
-  along-none (u ∷ []) w v f t = rw (f, along)
-  along-none (u ∷ x ∷ []) w v f t = rw (f, t, along)
-  along-none (u ∷ x ∷ y ∷ ts) w v f t = rw (f, t, along)
+is-mask : (w i : ℕ) → test_said w ≡ Mask i → w ≡ suc (suc i)
+is-mask zero i e = cc
+is-mask (suc zero) i e = cc
+is-mask (suc (suc k)) i e = cc
 
--- ---- the tests of a state's edges, and where they lead
+no_table-said : (w : ℕ) → test_said w ≡ Table → ⊥
+no_table-said zero q = cc
+no_table-said (suc zero) q = cc
+no_table-said (suc (suc i)) q = cc
 
-module _ (g : Graph) (words : List ℕ) (p : PlanOn g words) (s : ℕ) (h : s < length g.states) (plain : get_or words (edge_place base s 0) 0 ≡ table_word → ⊥)
-    (ends tests : List ℕ) (made : Prepared g ends tests) (tables : List ℕ) (b : ℕ) where
-  abbrev row : List ℕ
-  row = get_or (rows_of base g words) s []
+-- ---- of a graph that is ready to run texts
 
-  abbrev ts : List ℕ
-  ts = targets_of g s
+module _ (p : Planned) where
+  abbrev g : Graph
+  g = graph_from p.graph.words.now
 
-  abbrev takes : ℕ → Bool
-  takes j = edge_takes tables (state_of g s) (get_or ts j 0) (get_or words (edge_place base s j) 0) b
+  module _ (s : ℕ) (here : s < get_or p.graph.words.now 0 0) where
+    abbrev row : List ℕ
+    row = get_or (rows_of base g p.plan.now) s []
 
-  -- a test by the plan's word w, with the comparisons at e
-  pub tested : (j w e : ℕ) (t : Bool) → j < base.edges → w ≡ get_or words (edge_place base s j) 0 → e ≡ edge_at s j
-      → ((st : State) → (u : ℕ) → (w ≡ 1 → tests_at tests e ≡ comparisons (class_to st u)) → t ≡ edge_takes tables st u w b) → t ≡ takes j
-  tested j w e t l ew ee f =
-      f (state_of g s) (get_or ts j 0) (λ z. ap (tests_at tests) ee ∙ edge-compared g words p s h plain ends tests made j l (sym ew ∙ z))
-      ∙ ap (λ (x : ℕ). edge_takes tables (state_of g s) (get_or ts j 0) x b) ew
+    abbrev st : State
+    st = state_of g s
 
-  module _ (few : length g.states ≤ most_states) (r : ℕ) where
-    led-to : (j : ℕ) → j < base.edges → r ≡ get_or ends (edge_at s j) 0 → led_by g row tables s b ≡ some (get_or ts j 0)
-        → (or_none no_state r ≡ led_by g row tables s b) × (r < length g.states)
-    led-to j l e k =
-        let z : r ≡ get_or ts j 0 = e ∙ made.ends-are s j h l in
-        let q : r < length g.states = subst (λ (x : ℕ). x < length g.states) (sym z) (target_below (length g.states) (state_of g s) j (omega arith)) in
-        (or-number no_state r (λ x. omega arith) ∙ ap {B = Option ℕ} some z ∙ sym k, q)
+    abbrev ts : List ℕ
+    ts = targets_of g s
 
-    pub led-first : takes 0 ≡ true → r ≡ get_or ends (edge_at s 0) 0 → (or_none no_state r ≡ led_by g row tables s b) × (r < length g.states)
-    led-first t e =
-        led-to 0 (omega arith) e
-        (led-edges g words p s h plain tables b ∙ along-first tables (state_of g s) b ts _ (get_or words (edge_place base s 1) 0) (edge-absent g words p s h plain 0 (omega arith)) t)
+    pub inside : s < length g.states
+    inside = subst (λ (n : ℕ). s < n) (sym (from-length p.graph.words.now)) here
 
-    pub led-second : takes 0 ≡ false → takes 1 ≡ true → r ≡ get_or ends (edge_at s 1) 0 → (or_none no_state r ≡ led_by g row tables s b) × (r < length g.states)
-    led-second f t e =
-        led-to 1 (omega arith) e (led-edges g words p s h plain tables b ∙ along-second tables (state_of g s) b ts _ _ (edge-absent g words p s h plain 1 (omega arith)) f t)
+    pub state-few : s < most_states
+    state-few = omega (arith, taken-few p.graph.words.now p.graph.fits)
 
-  pub led-nowhere : takes 0 ≡ false → takes 1 ≡ false → led_by g row tables s b ≡ none
-  led-nowhere f t = led-edges g words p s h plain tables b ∙ along-none tables (state_of g s) b ts _ _ f t
+    pub own-there : own_place base s < length p.plan.now
+    own-there = let r = p.room in omega (arith, inside)
 
--- ---- the same by the numbers that the code holds: w and v the plan's words of the edges, t and x what their tests say, r the answer
+    pub edge-there : (j : ℕ) → j < base.edges → edge_place base s j < length p.plan.now
+    edge-there j l = let r = p.room in omega (arith, inside)
 
-module _ (graph words ends tests tables : List ℕ) (legal : graph_fits graph ≡ true) (p : PlanOn (graph_from graph) words) (made : Prepared (graph_from graph) ends tests) (s b : ℕ)
-    (here : s < get_or graph 0 0) where
-  abbrev Leads : ℕ → Type 0
-  Leads r = (or_none no_state r ≡ led_by (graph_from graph) (get_or (rows_of base (graph_from graph) words) s []) tables s b) × ((r ≡ no_state → ⊥) → r < get_or graph 0 0)
+    pub place-there : (j : ℕ) → j < base.edges → edge_at s j < length p.edges.now
+    place-there j l = let r = p.size in omega (arith, state-few)
 
-  inside : s < length (graph_from graph).states
-  inside = subst (λ (n : ℕ). s < n) (sym (from-length graph)) here
+    pub mask-few : get_or p.plan.now (own_place base s) 0 ≤ most_masks
+    mask-few = self-few g p.plan.now p.plan_on s inside
 
-  few : length (graph_from graph).states ≤ most_states
-  few = omega (arith, from-length graph, taken-few graph legal)
-
-  below : (r : ℕ) → (or_none no_state r ≡ led_by (graph_from graph) (get_or (rows_of base (graph_from graph) words) s []) tables s b) × (r < length (graph_from graph).states) → Leads r
-  below r q = (q.0, λ n. subst (λ (n : ℕ). r < n) (from-length graph) q.1)
-
-  module _ (w : ℕ) (ew : w ≡ get_or words (edge_place base s 0) 0) where
-    pub by-table : (r : ℕ) → w ≡ table_word → r ≡ Option.get_or (to (graph_from graph) s b) no_state → Leads r
-    by-table r e er = (
-      go (is (eqb r no_state)) ∙ sym (led-table (graph_from graph) words p s inside tables b (sym ew ∙ e)),
-      λ n. (edge-some graph legal s b r er n).1,
-    )
+    pub by-table : (b : ℕ) → Table ≡ edge_said (get_or p.plan.now (edge_place base s 0) 0) → led_by g row p.tables.now s b ≡ to g s b
+    by-table b e = led-table g p.plan.now p.plan_on s inside p.tables.now b (go (get_or p.plan.now (edge_place base s 0) 0) e)
       where
-        go : Is (eqb r no_state) → or_none no_state r ≡ to (graph_from graph) s b
-        go (yes-is q) = let z = eqb-true _ _ q in or-none no_state r z ∙ sym (no_edge graph legal s b r er z)
-        go (no-is q) = let z = eqb-false _ _ q in or-number no_state r z ∙ sym (edge-some graph legal s b r er z).0
+        go : (w : ℕ) → Table ≡ edge_said w → w ≡ table_word
+        go w e = at (is (eqb w table_word))
+          where
+            at : Is (eqb w table_word) → w ≡ table_word
+            at (yes-is q) = eqb-true _ _ q
+            at (no-is q) = absurd (no_table-said w (sym (said-other (eqb-false _ _ q)) ∙ sym e))
 
-    module _ (n : w ≡ table_word → ⊥) where
-      plain : get_or words (edge_place base s 0) 0 ≡ table_word → ⊥
-      plain e = n (ew ∙ e)
+    module _ (plain : get_or p.plan.now (edge_place base s 0) 0 ≡ table_word → ⊥) where
+      module _ (j : ℕ) (l : j < base.edges) where
+        abbrev word : ℕ
+        word = get_or p.plan.now (edge_place base s j) 0
 
-      pub first-few : w < 2 + most_masks
-      first-few = subst (λ (y : ℕ). y < 2 + most_masks) (sym ew) (edge_few (graph_from graph) words p s inside plain 0 (omega arith))
+        word-few : word < 2 + most_masks
+        word-few = edge_few g p.plan.now p.plan_on s inside plain j l
 
-      pub second-few : (v : ℕ) → v ≡ get_or words (edge_place base s 1) 0 → v < 2 + most_masks
-      second-few v ev = subst (λ (y : ℕ). y < 2 + most_masks) (sym ev) (edge_few (graph_from graph) words p s inside plain 1 (omega arith))
+        said : {t : EdgeWord} → t ≡ edge_said word → test_said word ≡ t
+        said e = sym (said-other (λ q. let f = word-few in omega arith)) ∙ sym e
 
-      -- the first edge stands at e
-      module _ {e : ℕ} (ee : e ≡ edge_at s 0) (t : Bool)
-          (ft : (st : State) → (u : ℕ) → (w ≡ 1 → tests_at tests e ≡ comparisons (class_to st u)) → t ≡ edge_takes tables st u w b) where
-        first-is : t ≡ takes (graph_from graph) words p s inside plain ends tests made tables b 0
-        first-is = tested (graph_from graph) words p s inside plain ends tests made tables b 0 w e t (omega arith) ew ee ft
+        pub not-table : Table ≡ edge_said word → ⊥
+        not-table e = no_table-said word (said e)
 
-        pub by_first : (r : ℕ) → t ≡ true → r ≡ get_or ends e 0 → Leads r
-        by_first r q er =
-            below r (led-first (graph_from graph) words p s inside plain ends tests made tables b few r (sym first-is ∙ q) (er ∙ ap (λ (x : ℕ). get_or ends x 0) ee))
+        pub mask-held : {i : ℕ} → Mask i ≡ edge_said word → i < most_masks
+        mask-held {i} e = let q = is-mask word i (said e) in let f = word-few in omega arith
 
-        -- the second at f
-        module _ (no : t ≡ false) (v : ℕ) (ev : v ≡ get_or words (edge_place base s 1) 0) {f : ℕ} (ef : f ≡ edge_at s 1) (x : Bool)
-            (fx : (st : State) → (u : ℕ) → (v ≡ 1 → tests_at tests f ≡ comparisons (class_to st u)) → x ≡ edge_takes tables st u v b) where
-          second_is : x ≡ takes (graph_from graph) words p s inside plain ends tests made tables b 1
-          second_is = tested (graph_from graph) words p s inside plain ends tests made tables b 1 v f x (omega arith) ev ef fx
+        module _ (b : ℕ) where
+          -- what its test answers
+          abbrev pub Takes : Bool → Type 0
+          Takes x = MatchOption (slice_get ts j) (x ≡ false) (λ u. x ≡ edge_takes p.tables.now st u word b)
 
-          pub by-second : (r : ℕ) → x ≡ true → r ≡ get_or ends f 0 → Leads r
-          by-second r q er =
-              below r
-              (led-second (graph_from graph) words p s inside plain ends tests made tables b few r (sym first-is ∙ no) (sym second_is ∙ q) (er ∙ ap (λ (x : ℕ). get_or ends x 0) ef))
+          takes-by : (x : Bool) → (slice_get ts j ≡ None → x ≡ false) → ((u : ℕ) → slice_get ts j ≡ Some u → x ≡ edge_takes p.tables.now st u word b) → Takes x
+          takes-by x a f = go (slice_get ts j) a f
+            where
+              go : (o : Option ℕ) → (o ≡ None → x ≡ false) → ((u : ℕ) → o ≡ Some u → x ≡ edge_takes p.tables.now st u word b)
+                  → MatchOption o (x ≡ false) (λ u. x ≡ edge_takes p.tables.now st u word b)
+              go None a f = a refl
+              go (Some u) a f = f u refl
 
-          pub by-none : x ≡ false → Leads no_state
-          by-none q = (sym (led-nowhere (graph_from graph) words p s inside plain ends tests made tables b (sym first-is ∙ no) (sym second_is ∙ q)), λ n. absurd (n refl))
+          pub takes-nothing : Nothing ≡ edge_said word → Takes false
+          takes-nothing e = let z = is-nothing word (said e) in takes-by false (λ q. refl) (λ u q. rw z refl)
+
+          missing : slice_get ts j ≡ None → word ≡ 0
+          missing q = edge-missing g p.plan.now p.plan_on s inside plain j l q
+
+          pub takes-tests : Tests ≡ edge_said word → {x : Bool} → x ≡ some_holds (tests_of (get_or p.edges.now (edge_at s j) no_edge)) b → Takes x
+          takes-tests e {x} h =
+              let z = is-tests word (said e) in
+              takes-by x (λ q. let m = missing q in absurd (omega arith))
+              (λ u q.
+              rw z
+              (h ∙ ap (λ x. some_holds x b) ((p.prepared s j u inside l (no_table g p.plan.now p.plan_on s inside plain) q).1 (edge-compared g p.plan.now p.plan_on s inside plain j l z q))))
+
+          pub takes-mask : {i : ℕ} → Mask i ≡ edge_said word → {x : Bool} → x ≡ mask_has p.tables.now i b → Takes x
+          takes-mask {i} e {x} h =
+              let z = is-mask word i (said e) in
+              takes-by x (λ q. let m = missing q in absurd (omega arith)) (λ u q. rw z h)
+
+          -- and where it leads
+          pub leads : {x : Bool} → Takes x → x ≡ true
+              → Some (get_or p.edges.now (edge_at s j) no_edge).target ≡ led_along p.tables.now st (slice_get ts j) word b
+          leads {x} t e = go (slice_get ts j) refl t
+            where
+              go : (o : Option ℕ) → slice_get ts j ≡ o → MatchOption o (x ≡ false) (λ u. x ≡ edge_takes p.tables.now st u word b)
+                  → Some (get_or p.edges.now (edge_at s j) no_edge).target ≡ led_along p.tables.now st o word b
+              go None q k = let z : true ≡ false = sym e ∙ k in cc
+              go (Some u) q k = rw (sym k ∙ e) (ap (λ (m : ℕ). Some m) (p.prepared s j u inside l (no_table g p.plan.now p.plan_on s inside plain) q).0)
+
+          pub leads-not : {x : Bool} → Takes x → x ≡ false → None ≡ led_along p.tables.now st (slice_get ts j) word b
+          leads-not {x} t e = go (slice_get ts j) t
+            where
+              go : (o : Option ℕ) → MatchOption o (x ≡ false) (λ u. x ≡ edge_takes p.tables.now st u word b) → None ≡ led_along p.tables.now st o word b
+              go None k = refl
+              go (Some u) k = rw (sym k ∙ e) refl
+
+          pub led-below : {r : Option ℕ} → r ≡ led_along p.tables.now st (slice_get ts j) word b → IfSome r (λ u. u < get_or p.graph.words.now 0 0)
+          led-below {r} e = rw e (go (slice_get ts j) (target_below (length g.states) st j))
+            where
+              pick : (u : ℕ) → u < length g.states → (t : Bool) → IfSome (cond t (Some u) None) (λ u. u < get_or p.graph.words.now 0 0)
+              pick u h true = omega (arith, from-length p.graph.words.now)
+              pick u h false = tt
+
+              go : (o : Option ℕ) → IfSome o (λ u. u < length g.states) → IfSome (led_along p.tables.now st o word b) (λ u. u < get_or p.graph.words.now 0 0)
+              go None h = tt
+              go (Some u) h = pick u h (edge_takes p.tables.now st u word b)
+
+      module _ (b : ℕ) where
+        abbrev led : ℕ → Option ℕ
+        led j = led_along p.tables.now st (slice_get ts j) (get_or p.plan.now (edge_place base s j) 0) b
+
+        pub by-first : {r : Option ℕ} {u : ℕ} → r ≡ led 0 → r ≡ Some u → Some u ≡ led_by g row p.tables.now s b
+        by-first e q = sym (led-edges g p.plan.now p.plan_on s inside plain p.tables.now b ∙ along-first p.tables.now st b ts _ _ (sym e ∙ q))
+
+        pub by-second : {r t : Option ℕ} → r ≡ led 0 → r ≡ None → t ≡ led 1 → t ≡ led_by g row p.tables.now s b
+        by-second e q f =
+            f ∙ sym (led-edges g p.plan.now p.plan_on s inside plain p.tables.now b ∙ along-second p.tables.now st b ts _ _ (sym e ∙ q))

@@ -1,6 +1,6 @@
-pub mod Packed
+pub mod PlanRow
+pub mod OnPlan
+pub mod Leading
 pub mod Preparing
 pub mod SelfRun
-pub mod PlanRow
-pub mod Leading
 pub mod Running

@@ -14,7 +14,7 @@ use Rattle.lists.proofs.Bools.{Is, yes-is, no-is, is, and_both, or_cases, lt-or-
 use Rattle.lists.proofs.Elements.{all-at}
 use Rattle.lists.proofs.Pieces.{pieces-length, pieces-at}
 use Rattle.graph_rules.specs.Graph.{Graph, state_of, to}
-use Rattle.classes.specs.Classes.{Class, comparisons}
+use Rattle.classes.specs.Classes.{Class}
 use Rattle.mask_store.specs.Layout.{most_masks}
 use Rattle.edges.specs.Edges.{class_to}
 use Rattle.plan_rules.specs.declared.Way.{Way}
@@ -23,7 +23,9 @@ use Rattle.plan_rules.specs.Plan.{base, table_word, row_size, own_place, edge_pl
 use Rattle.plan_rules.specs.Run.{self_of, says_table, along, led_by, edge_held, row_held, rows_of}
 use Rattle.plan_rules.proofs.Edges.{no-table-word}
 use Rattle.plan_rules.proofs.RunIsWalk.{base-sane, row-length, row_at, rows_are}
-use Rattle.runner.specs.Prepared.{targets_of, tests_at, edge_at, Prepared, PlanOn}
+use Rattle.std.specs.Prelude.{Some, None, slice_get}
+use Rattle.std.proofs.lemmas.Option.{slice_get-get_or, slice_get_within, get_or_from_slice_get}
+use Rattle.runner.specs.Prepared.{targets_of, PlanOn}
 
 three : (l : List ℕ) → length l ≡ 3 → drop 1 l ≡ get_or l 1 0 ∷ get_or l 2 0 ∷ []
 three [] e = absurd (omega arith)
@@ -107,7 +109,7 @@ module _ (g : Graph) (words : List ℕ) (p : PlanOn g words) (s : ℕ) (h : s < 
         let e : led_by g row tables s b ≡ along tables (state_of g s) ts (drop 1 row) b = rw (t, led_by) in
         e ∙ ap (λ (l : List ℕ). along tables (state_of g s) ts l b) row-edges
 
-    no_table : by_table base ts ≡ false
+    pub no_table : by_table base ts ≡ false
     unfolding plan_row edge_words
     no_table = go (is (by_table base ts))
       where
@@ -148,12 +150,18 @@ module _ (g : Graph) (words : List ℕ) (p : PlanOn g words) (s : ℕ) (h : s < 
             absurd (omega arith)
         go (inr a) (inr b) = let e = edge-absent j l a in omega arith
 
-    module _ (ends tests : List ℕ) (made : Prepared g ends tests) where
-      pub edge-compared : (j : ℕ) → j < base.edges → get_or words (edge_place base s j) 0 ≡ 1 → tests_at tests (edge_at s j) ≡ comparisons (class_to (state_of g s) (get_or ts j 0))
-      edge-compared j l e = go (lt-or-le j (length ts))
-        where
-          go : (j < length ts) ⊎ (length ts ≤ j) → tests_at tests (edge_at s j) ≡ comparisons (class_to (state_of g s) (get_or ts j 0))
-          go (inl a) =
-              made.tests-are s j h l no_table a
-              (one-tests p.all (way_to base (state_of g s) s (get_or ts j 0)) (class_to (state_of g s) (get_or ts j 0)) (sym (padded-in word (base.words - length ts) ts j a) ∙ sym (edge-word j l) ∙ e))
-          go (inr a) = let z = edge-absent j l a in absurd (omega arith)
+    -- the word of an edge that is not there, and of one that is tested by comparisons
+    pub edge-missing : (j : ℕ) → j < base.edges → slice_get ts j ≡ None → get_or words (edge_place base s j) 0 ≡ 0
+    edge-missing j l e = go (lt-or-le j (length ts))
+      where
+        go : (j < length ts) ⊎ (length ts ≤ j) → get_or words (edge_place base s j) 0 ≡ 0
+        go (inl a) = cc (slice_get-get_or ts j 0 a)
+        go (inr a) = edge-absent j l a
+
+    pub edge-compared : (j : ℕ) → j < base.edges → get_or words (edge_place base s j) 0 ≡ 1 → {u : ℕ} → slice_get ts j ≡ Some u
+        → way_to base (state_of g s) s u ≡ ByTests
+    edge-compared j l e {u} q =
+        let a : j < length ts = slice_get_within ts j u q in
+        let k : get_or ts j 0 ≡ u = get_or_from_slice_get ts j u 0 q in
+        subst (λ (x : ℕ). way_to base (state_of g s) s x ≡ ByTests) k
+        (one-tests p.all (way_to base (state_of g s) s (get_or ts j 0)) (class_to (state_of g s) (get_or ts j 0)) (sym (padded-in word (base.words - length ts) ts j a) ∙ sym (edge-word j l) ∙ e))

@@ -1,106 +1,98 @@
--- The states prepared one after another: the two lowest targets of the next, and the comparisons of its edges where no table is used. Assumes nothing.
-use mathlib.Core.Path.{◌≡◌, sym, ap, ◌∙◌}
-use mathlib.Core.Bool.{false}
-use mathlib.Core.List.{List}
-use Prim.Native.Nat.{ℕ, zero, suc, ◌+◌, ◌≤◌, ◌<◌}
-use native.Mathlib.Omega.{arith}
-use borrow.Author.Count.{below_more}
-use lib.ListN.{length, get_or, set, length-set}
-use lib.Seq.{get_or-set_same, get_or-set_other}
-use Rattle.classes.specs.Classes.{comparisons}
-use Rattle.graph_rules.specs.Layout.{most_states}
-use Rattle.graph_rules.specs.Graph.{Graph, state_of, graph_from}
-use Rattle.graph_rules.proofs.Flat.{from-length}
+-- The edges of the states prepared one after another, and an edge as it is kept. Assumes nothing.
+use Rattle.std.proofs.Common.{◌≡◌, refl, sym, ap, ◌∙◌, true, false, List, [], ◌∷◌, ℕ, zero, suc, ◌+◌, ◌≤◌, ◌<◌, length, get_or, take, arith, Option, Some, None, IfSome, slice_get, below_more, eqb, ltb, ltb-false}
+use Rattle.lists.proofs.Bools.{Is, yes-is, no-is, is}
+use Rattle.graph_rules.specs.Graph.{State, Graph}
+use Rattle.classes.specs.Classes.{Class, comparisons, cost}
+use Rattle.classes.specs.ClassAnswers.{as_comparisons, listed}
+use Rattle.classes.specs.declared.byte_class.Comparisons.{Comparisons}
+use Rattle.classes.proofs.Few.{few-comparisons, few-exceptions, laid-long, listed-front}
 use Rattle.edges.specs.Edges.{class_to}
-use Rattle.plan_rules.specs.declared.Way.TheVariants.{ByTests}
+use Rattle.plan_rules.specs.declared.Way.TheVariants.{BySelf, ByTests, ByMask}
 use Rattle.plan_rules.specs.Plan.{base, by_table, way_to}
-use Rattle.plan_rows.specs.Fork.{fork_of}
-use Rattle.plan_rows.proofs.Forks.{fork-count, fork-table, fork-low, fork-high, low_below, high-below}
+use Rattle.plan_rows.specs.declared.fork.Edges.TheVariants.{ByTable, Each}
 use Rattle.plan_rows.specs.declared.fork.Fork.{Fork}
-use Rattle.runner.specs.Prepared.{tests_at, targets_of, edge_class, edge_at, edges_size, tests_size, Prepared}
-use Rattle.runner.proofs.Packed.{Edge}
+use Rattle.plan_rows.specs.Fork.{fork_of}
+use Rattle.plan_rows.proofs.Forks.{fork-table, fork-each}
+use Rattle.runner.specs.declared.edge.Edge.{Edge}
+use Rattle.runner.specs.Prepared.{no_edge, targets_of, edge_at, edges_size, EdgeIs, Prepared}
 
--- the targets of a fork are states
-pub fork-below : (w : List ℕ) (s : ℕ) → s < get_or w 0 0 → {fork : Fork} → fork ≡ fork_of (graph_from w) s → (fork.low < get_or w 0 0) × (fork.high < get_or w 0 0)
-fork-below w s h is =
-    let n = from-length w in
-    let some : 0 < length (graph_from w).states = omega arith in
-    (omega (arith, low_below (graph_from w) s is some), omega (arith, high-below (graph_from w) s is some))
+-- ---- an edge
+
+-- a class that is tested by comparisons costs little
+tests-cheap : (st : State) (s u : ℕ) → way_to base st s u ≡ ByTests → cost (class_to st u) ≤ base.cost
+unfolding way_to
+tests-cheap st s u e = go (is (eqb u s)) (is (ltb 2 (cost (class_to st u))))
+  where
+    go : Is (eqb u s) → Is (ltb 2 (cost (class_to st u))) → cost (class_to st u) ≤ 2
+    go x (no-is y) = ltb-false _ _ y
+    go (yes-is x) (yes-is y) = let q : BySelf ≡ ByTests = rw x at e in cc
+    go (no-is x) (yes-is y) = let q : ByMask ≡ ByTests = rw (x, y) at e in cc
+
+front-three : {A : Type 0} (d : A) (l : List A) → 3 ≤ length l → take 3 l ≡ get_or l 0 d ∷ get_or l 1 d ∷ get_or l 2 d ∷ []
+front-three d [] h = absurd (omega arith)
+front-three d (a ∷ []) h = absurd (omega arith)
+front-three d (a ∷ b ∷ []) h = absurd (omega arith)
+front-three d (a ∷ b ∷ c ∷ l) h = refl
+
+front-two : (l : List ℕ) → 2 ≤ length l → take 2 l ≡ get_or l 0 0 ∷ get_or l 1 0 ∷ []
+front-two [] h = absurd (omega arith)
+front-two (a ∷ []) h = absurd (omega arith)
+front-two (a ∷ b ∷ l) h = refl
+
+-- its comparisons, laid out, are kept in three entries and two exceptions
+pub tests-kept : (st : State) (s u : ℕ) {class : Class} {laid : Comparisons} → class ≡ class_to st u → way_to base st s u ≡ ByTests → laid ≡ as_comparisons (comparisons class)
+    → (d : _) → listed (take laid.count (get_or laid.list 0 d ∷ get_or laid.list 1 d ∷ get_or laid.list 2 d ∷ [])) (get_or laid.except 0 0 ∷ get_or laid.except 1 0 ∷ []) ≡ comparisons (class_to st u)
+tests-kept st s u {class} {laid} read way same d =
+    let small : cost class ≤ 2 = rw read (tests-cheap st s u way) in
+    let long = laid-long (comparisons class) same in
+    rw (← front-three d laid.list (omega (arith, long.0)), ← front-two laid.except (omega (arith, long.1)))
+    (listed-front (comparisons class) same 3 2 (omega (arith, few-comparisons class)) (omega (arith, few-exceptions class)) ∙ ap comparisons read)
 
 -- ---- the states below n are prepared
 
--- edge j of state s has its comparisons, if it is tested by them
-abbrev Tested : Graph → List ℕ → ℕ → ℕ → Type 0
-Tested g tests s j =
-    by_table base (targets_of g s) ≡ false → j < length (targets_of g s) → way_to base (state_of g s) s (get_or (targets_of g s) j 0) ≡ ByTests
-    → tests_at tests (edge_at s j) ≡ comparisons (edge_class g s j)
+pub record PreparedTo (g : Graph) (n : ℕ) (edges : List Edge) : Type 0 where
+  pub size : length edges ≡ edges_size
+  pub are : (s : ℕ) → s < n → (j u : ℕ) → j < base.edges → by_table base (targets_of g s) ≡ false → slice_get (targets_of g s) j ≡ Some u
+      → EdgeIs g s u (get_or edges (edge_at s j) no_edge)
 
-pub record PreparedTo (g : Graph) (n : ℕ) (ends tests : List ℕ) : Type 0 where
-  pub ends-size : length ends ≡ edges_size
-  pub tests-size : length tests ≡ tests_size
-  pub ends-are : (s : ℕ) → s < n → (j : ℕ) → j < base.edges → get_or ends (edge_at s j) 0 ≡ get_or (targets_of g s) j 0
-  pub tests-are : (s : ℕ) → s < n → (j : ℕ) → j < base.edges → Tested g tests s j
+pub prepared-none : (g : Graph) (edges : List Edge) → length edges ≡ edges_size → PreparedTo g 0 edges
+prepared-none g edges a = record { size = a; are = λ s h. absurd (omega arith) }
 
-pub prepared-none : (g : Graph) (ends tests : List ℕ) → length ends ≡ edges_size → length tests ≡ tests_size → PreparedTo g 0 ends tests
-prepared-none g ends tests a b = record { ends-size = a; tests-size = b; ends-are = λ s h. absurd (omega arith); tests-are = λ s h. absurd (omega arith) }
-
-pub prepared-all : {g : Graph} {n : ℕ} {ends tests : List ℕ} → length g.states ≤ n → PreparedTo g n ends tests → Prepared g ends tests
-prepared-all all p = record { ends-are = λ s j h. p.ends-are s (omega arith) j; tests-are = λ s j h. p.tests-are s (omega arith) j }
-
--- the two edges of a state
-each-edge : (P : ℕ → Type 0) → P 0 → P 1 → (j : ℕ) → j < base.edges → P j
-each-edge P a b zero h = a
-each-edge P a b (suc zero) h = b
-each-edge P a b (suc (suc j)) h = absurd (omega arith)
+pub prepared-all : {g : Graph} {n : ℕ} {edges : List Edge} → length g.states ≤ n → PreparedTo g n edges → Prepared g edges
+prepared-all all p = λ s j u h. p.are s (omega arith) j u
 
 -- ---- the next state
 
--- its edges stand at x and y
-module _ {g : Graph} {s : ℕ} {ends tests : List ℕ} (p : PreparedTo g s ends tests) (few : s < most_states) {fork : Fork} (is : fork ≡ fork_of g s) {x y : ℕ}
-    (first : x ≡ edge_at s 0) (second : y ≡ edge_at s 1) where
-  abbrev low-ends : List ℕ
-  low-ends = set ends x fork.low
-
-  abbrev more-ends : List ℕ
-  more-ends = set low-ends y fork.high
-
-  ends_more : (t : ℕ) → t < s + 1 → (j : ℕ) → j < base.edges → get_or more-ends (edge_at t j) 0 ≡ get_or (targets_of g t) j 0
-  ends_more = below_more (λ t. (j : ℕ) → j < base.edges → get_or more-ends (edge_at t j) 0 ≡ get_or (targets_of g t) j 0) s before here
-    where
-      size : length low-ends ≡ edges_size
-      size = length-set ends x fork.low ∙ p.ends-size
-
-      before : (t : ℕ) → t < s → (j : ℕ) → j < base.edges → get_or more-ends (edge_at t j) 0 ≡ get_or (targets_of g t) j 0
-      before t h j k =
-          get_or-set_other low-ends y (edge_at t j) fork.high 0 (λ e. omega arith)
-          ∙ get_or-set_other ends x (edge_at t j) fork.low 0 (λ e. omega arith)
-          ∙ p.ends-are t h j k
-
-      here : (j : ℕ) → j < base.edges → get_or more-ends (edge_at s j) 0 ≡ get_or (targets_of g s) j 0
-      here =
-          each-edge (λ j. get_or more-ends (edge_at s j) 0 ≡ get_or (targets_of g s) j 0)
-          (get_or-set_other low-ends y (edge_at s 0) fork.high 0 (λ e. omega arith)
-          ∙ ap (λ (i : ℕ). get_or low-ends i 0) (sym first)
-          ∙ get_or-set_same ends x fork.low 0 (omega (arith, p.ends-size))
-          ∙ fork-low g s is)
-          (ap (λ (i : ℕ). get_or more-ends i 0) (sym second) ∙ get_or-set_same low-ends y fork.high 0 (omega (arith, size)) ∙ fork-high g s is)
-
-  -- both edges take their step
-  pub prepared-more : (mid after : List ℕ) → Edge tests (edge_at s 0) 0 fork (way_to base (state_of g s) s fork.low) (class_to (state_of g s) fork.low) mid
-      → Edge mid (edge_at s 1) 1 fork (way_to base (state_of g s) s fork.high) (class_to (state_of g s) fork.high) after → PreparedTo g (s + 1) more-ends after
-  prepared-more mid after a b =
+module _ {g : Graph} {s : ℕ} {edges : List Edge} (p : PreparedTo g s edges) {fork : Fork} (is-fork : fork ≡ fork_of g s) where
+  pub prepared-table : fork.edges ≡ ByTable → PreparedTo g (s + 1) edges
+  prepared-table e =
       record {
-        ends-size = length-set low-ends y fork.high ∙ length-set ends x fork.low ∙ p.ends-size;
-        tests-size = b.1.1;
-        ends-are = ends_more;
-        tests-are = below_more (λ t. (j : ℕ) → j < base.edges → Tested g after t j) s before here;
+        size = p.size;
+        are = below_more (λ t. (j u : ℕ) → j < base.edges → by_table base (targets_of g t) ≡ false → slice_get (targets_of g t) j ≡ Some u → EdgeIs g t u (get_or edges (edge_at t j) no_edge))
+            s p.are (λ j u l n. let y = fork-table g s is-fork e in let z : true ≡ false = sym y ∙ n in cc);
+      }
+
+  -- both edges are kept, one after the other
+  pub prepared-each : {l : List (Option ℕ)} → fork.edges ≡ Each l → (mid after : List Edge)
+      → IfSome (get_or l 0 None) (λ u. EdgeIs g s u (get_or mid (edge_at s 0) no_edge)) → ((i : ℕ) → (i ≡ edge_at s 0 → ⊥) → get_or mid i no_edge ≡ get_or edges i no_edge)
+      → IfSome (get_or l 1 None) (λ u. EdgeIs g s u (get_or after (edge_at s 1) no_edge)) → ((i : ℕ) → (i ≡ edge_at s 1 → ⊥) → get_or after i no_edge ≡ get_or mid i no_edge)
+      → length after ≡ edges_size → PreparedTo g (s + 1) after
+  prepared-each {l} e mid after first others second others' long =
+      record {
+        size = long;
+        are = below_more (λ t. (j u : ℕ) → j < base.edges → by_table base (targets_of g t) ≡ false → slice_get (targets_of g t) j ≡ Some u → EdgeIs g t u (get_or after (edge_at t j) no_edge))
+            s before here;
       }
     where
-      before : (t : ℕ) → t < s → (j : ℕ) → j < base.edges → Tested g after t j
-      before t h j k few there way = b.1.0 (edge_at t j) (λ e. omega arith) ∙ a.1.0 (edge_at t j) (λ e. omega arith) ∙ p.tests-are t h j k few there way
+      lowest : l ≡ slice_get (targets_of g s) 0 ∷ slice_get (targets_of g s) 1 ∷ []
+      lowest = (fork-each g s is-fork e).1
 
-      here : (j : ℕ) → j < base.edges → Tested g after s j
-      here =
-          each-edge (Tested g after s)
-          (λ few there way. b.1.0 (edge_at s 0) (λ e. omega arith) ∙ rw (fork-low g s is) at a.0 (omega (arith, fork-count g s is)) (fork-table g s is ∙ few) way)
-          (λ few there way. rw (fork-high g s is) at b.0 (omega (arith, fork-count g s is)) (fork-table g s is ∙ few) way)
+      before : (t : ℕ) → t < s → (j u : ℕ) → j < base.edges → by_table base (targets_of g t) ≡ false → slice_get (targets_of g t) j ≡ Some u → EdgeIs g t u (get_or after (edge_at t j) no_edge)
+      before t h j u k few there =
+          rw (others' (edge_at t j) (λ q. omega arith) ∙ others (edge_at t j) (λ q. omega arith)) (p.are t h j u k few there)
+
+      here : (j u : ℕ) → j < base.edges → by_table base (targets_of g s) ≡ false → slice_get (targets_of g s) j ≡ Some u → EdgeIs g s u (get_or after (edge_at s j) no_edge)
+      here zero u k few there =
+          rw (others' (edge_at s 0) (λ q. omega arith)) (rw (ap (λ (x : List (Option ℕ)). get_or x 0 None) lowest ∙ there) at first)
+      here (suc zero) u k few there = rw (ap (λ (x : List (Option ℕ)). get_or x 1 None) lowest ∙ there) at second
+      here (suc (suc j)) u k few there = absurd (omega arith)

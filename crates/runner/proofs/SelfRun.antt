@@ -1,6 +1,6 @@
 -- The bytes that a self run passes, and that the run by a plan passes them too. Assumes nothing.
 use mathlib.Core.Path.{◌≡◌, refl, ap, ◌∙◌}
-use mathlib.Core.Bool.{Bool, true, false}
+use mathlib.Core.Bool.{Bool, true}
 use mathlib.Core.List.{List, []}
 use Prim.Native.Nat.{ℕ, zero, suc, ◌+◌, ◌-◌, ◌≤◌, ◌<◌}
 use native.Mathlib.Omega.{arith}
@@ -11,6 +11,8 @@ use Rattle.graph_rules.specs.Graph.{Graph}
 use Rattle.graph_rules.specs.Read.{Reading}
 use Rattle.mask_store.specs.Layout.{mask_table, mask_bit, entry_place}
 use Rattle.mask_store.specs.Masks.{mask_has}
+use Rattle.std.specs.Prelude.{Some, None}
+use Rattle.plan_rules.specs.Plan.{own_said}
 use Rattle.plan_rules.specs.Run.{self_of, self_takes, run_from}
 
 -- the bit that is tested is the mask's
@@ -19,13 +21,14 @@ pub read-bit : (tables text : List ℕ) (i k b : ℕ) (r : Bool) → b ≡ get_o
 unfolding mask_has
 read-bit tables text i k b r e f = f ∙ ap (λ (x : ℕ). is_set (mask_bit i) (get_or tables (entry_place (mask_table i) x) 0)) e
 
--- what a self word takes
-pub self-none : (tables : List ℕ) (w b : ℕ) → w ≡ 0 → self_takes tables w b ≡ false
-self-none tables w b e = rw e
+-- what a self word says
+pub own-mask : (w : ℕ) {i : ℕ} → Some i ≡ own_said w → w ≡ suc i
+own-mask zero e = cc
+own-mask (suc k) e = cc
 
-pub self-some : (tables : List ℕ) (w b : ℕ) → (w ≡ 0 → ⊥) → self_takes tables w b ≡ mask_has tables (w - 1) b
-self-some tables zero b n = absurd (n refl)
-self-some tables (suc i) b n = let e : i ≡ suc i - 1 = omega arith in ap (λ (x : ℕ). mask_has tables x b) e
+pub own-none : (w : ℕ) → None ≡ own_said w → w ≡ 0
+own-none zero e = refl
+own-none (suc k) e = cc
 
 -- bytes that the self word takes are passed by the run, which stays where it is
 module _ (g : Graph) (rows : List (List ℕ)) (tables text : List ℕ) (s w : ℕ) (word : self_of (get_or rows s []) ≡ w) where

@@ -1,51 +1,47 @@
 -- What is worked out of a graph before texts are run by its plan: the targets of each state's first two edges, and the comparisons of those that
--- are tested by them; and of which plan words the run is asked. Definitions only.
-use Rattle.std.specs.Prelude.{◌≡◌, true, false, List, ℕ, ◌+◌, ◌*◌, ◌<◌, ◌≤◌, length, get_or, take, drop}
+-- are tested by them, where these edges are tested one by one; of which plan words a run is asked; and where an edge leads a byte. Definitions only.
+use Rattle.std.specs.Prelude.{◌≡◌, true, false, cond, Option, Some, None, List, [], ℕ, ◌+◌, ◌*◌, ◌<◌, ◌≤◌, length, get_or, take, slice_get}
 use Rattle.lists.specs.Lists.{all_l}
 use Rattle.graph_rules.specs.Layout.{most_states}
-use Rattle.graph_rules.specs.Graph.{Graph, state_of}
+use Rattle.graph_rules.specs.Graph.{State, Graph, state_of}
 use Rattle.classes.specs.Classes.{Class, Comparison, comparisons}
 use Rattle.classes.specs.ClassAnswers.{listed}
 use Rattle.edges.specs.Edges.{class_to, targets}
 use Rattle.plan_rules.specs.declared.Way.TheVariants.{ByTests}
 use Rattle.plan_rules.specs.Plan.{base, by_table, way_to, plan_words, plan_size}
-use Rattle.plan_rules.specs.Run.{row_held, rows_of}
+use Rattle.plan_rules.specs.Run.{edge_takes, row_held, rows_of}
+use Rattle.runner.specs.declared.edge.Edge.{Edge}
 
--- the comparisons of edge e, in 12 bytes: their number, three firsts, three lasts, three numbers of exceptions, two exceptions
-abbrev pub slot_bytes : ℕ
-slot_bytes = 12
+-- what stands where no edge is
+abbrev pub no_edge : Edge
+no_edge = record { target = 0; count = 0; list = []; except = [] }
 
-abbrev pub slot : ℕ → ℕ
-slot e = slot_bytes * e
-
-unfoldable pub tests_at : List ℕ → ℕ → List Comparison
-tests_at tests e =
-    listed (get_or tests (slot e) 0) (take 3 (drop (slot e + 1) tests)) (take 3 (drop (slot e + 4) tests)) (take 3 (drop (slot e + 7) tests))
-    (take 2 (drop (slot e + 10) tests))
+-- the comparisons that it keeps
+abbrev pub tests_of : Edge → List Comparison
+tests_of e = listed (take e.count e.list) e.except
 
 -- the targets of state s, ascending
 abbrev pub targets_of : Graph → ℕ → List ℕ
 targets_of g s = targets (length g.states) (state_of g s)
 
--- the class of its edge j in target order
-abbrev pub edge_class : Graph → ℕ → ℕ → Class
-edge_class g s j = class_to (state_of g s) (get_or (targets_of g s) j 0)
-
--- where its edge j stands: as many edges a state as are tested without a table
+-- where its edge j stands, in target order: as many edges a state as are tested without a table
 abbrev pub edge_at : ℕ → ℕ → ℕ
 edge_at s j = base.edges * s + j
 
--- how many edges of all states there may be, and the bytes of their comparisons
+-- how many edges of all states there may be
 abbrev pub edges_size : ℕ
 edges_size = base.edges * most_states
 
-abbrev pub tests_size : ℕ
-tests_size = slot_bytes * edges_size
+-- the edge from state s to u is kept as e
+abbrev pub EdgeIs : Graph → ℕ → ℕ → Edge → Type 0
+EdgeIs g s u e =
+    (e.target ≡ u)
+    × (way_to base (state_of g s) s u ≡ ByTests → tests_of e ≡ comparisons (class_to (state_of g s) u))
 
-pub record Prepared (g : Graph) (ends tests : List ℕ) : Type 0 where
-  pub ends-are : (s j : ℕ) → s < length g.states → j < base.edges → get_or ends (edge_at s j) 0 ≡ get_or (targets_of g s) j 0
-  pub tests-are : (s j : ℕ) → s < length g.states → j < base.edges → by_table base (targets_of g s) ≡ false → j < length (targets_of g s)
-      → way_to base (state_of g s) s (get_or (targets_of g s) j 0) ≡ ByTests → tests_at tests (edge_at s j) ≡ comparisons (edge_class g s j)
+abbrev pub Prepared : Graph → List Edge → Type 0
+Prepared g edges =
+    (s j u : ℕ) → s < length g.states → j < base.edges → by_table base (targets_of g s) ≡ false → slice_get (targets_of g s) j ≡ Some u
+    → EdgeIs g s u (get_or edges (edge_at s j) no_edge)
 
 -- the words begin with the plan that some classes give, at most 64, and name none but these
 pub record PlanOn (g : Graph) (words : List ℕ) : Type 0 where
@@ -53,3 +49,8 @@ pub record PlanOn (g : Graph) (words : List ℕ) : Type 0 where
   pub few : length all ≤ 64
   pub words_are : take (plan_size base g) words ≡ plan_words base all g
   pub held : all_l (row_held 64) (rows_of base g words) ≡ true
+
+-- where an edge leads a byte, if there is one and the test that its word w names takes it
+abbrev pub led_along : List ℕ → State → Option ℕ → ℕ → ℕ → Option ℕ
+led_along tables st None w b = None
+led_along tables st (Some u) w b = cond (edge_takes tables st u w b) (Some u) None

@@ -5,6 +5,8 @@
 #![tactic(auto)]
 
 mod comparisons;
+pub mod edge;
+pub mod planned;
 pub mod prepare;
 pub mod run;
 mod self_run;

@@ -1,61 +1,60 @@
 // How a byte leads on from a state (docs/RULES.md, "Planned run"): by the row's targets if the plan says table, else along the edge whose mask has
 // the byte or whose comparisons hold.
-ghost use Rattle.std.specs.Prelude.{◌≡◌, true, [], ℕ, ◌<◌, ◌≤◌, length, get_or};
-ghost use Rattle.graph_rules.specs.Layout.{no_state};
-ghost use Rattle.graph_rules.specs.Graph.{State, graph_fits, graph_from, or_none};
-ghost use Rattle.classes.specs.Classes.{comparisons};
-ghost use Rattle.edges.specs.Edges.{class_to};
-ghost use Rattle.plan_rules.specs.Plan.{base, own_place};
+ghost use Rattle.std.specs.Prelude.{◌≡◌, [], ◌<◌, get_or, IfSome, slice_get, MatchOption, false};
+ghost use Rattle.graph_rules.specs.Graph.{graph_from, state_of};
+ghost use Rattle.plan_rules.specs.Plan.{base, edge_place, table_word};
 ghost use Rattle.plan_rules.specs.Run.{edge_takes, led_by, rows_of};
-ghost use Rattle.runner.specs.Prepared.{tests_at, edges_size, tests_size, Prepared, PlanOn};
+ghost use Rattle.runner.specs.Prepared.{targets_of, led_along};
 
+use crate::comparisons::edge_holds;
+use crate::planned::Planned;
 use crate::prepare::edge_place;
-use mask_store::SIZE;
+use mask_store::tables::mask_has;
 use plan_rows::layout;
+use plan_rules::EdgeWord;
 
-// Whether the test that plan word w names, of the edge whose comparisons stand at e, takes the byte.
-fn edge_takes(tables: &[u8; SIZE], tests: &[u8], w: usize, e: usize, byte: u8) -> bool
-    requires { (w < 66) × (e < edges_size) × (length tests.now ≡ tests_size) }
-    ensures { (st : State) → (u : ℕ) → (w ≡ 1 → tests_at tests.now e ≡ comparisons (class_to st u)) → result ≡ edge_takes tables.now st u w byte }
-{
-    if w == 0 {
-        return false;
+impl Planned<'_> {
+    // Whether the test that the plan names for edge j of state s takes the byte; of no edge it names none.
+    fn takes(&self, s: usize, j: usize, byte: u8) -> bool
+        requires s_bound { s < get_or self.now.graph.words.now 0 0 }
+        requires j_lt_edges { j < base.edges }
+        requires plain { get_or self.now.plan.now (edge_place base s 0) 0 ≡ table_word → ⊥ }
+        ensures { MatchOption (slice_get (targets_of (graph_from self.now.graph.words.now) s) j) (result ≡ false) (λ u. result ≡ edge_takes self.now.tables.now (state_of (graph_from self.now.graph.words.now) s) u (get_or self.now.plan.now (edge_place base s j) 0) byte) }
+    {
+        match layout::edge(self.plan, s, j) {
+            EdgeWord::Nothing => false,
+            EdgeWord::Tests => edge_holds(&self.edges[edge_place(s, j)], byte),
+            EdgeWord::Mask(i) => mask_has(self.tables, i, byte),
+            EdgeWord::Table => unreachable!(),
+        }
     }
-    if w == 1 {
-        return crate::comparisons::edge_holds(tests, e, byte);
-    }
-    mask_store::tables::mask_has(tables, w - 2, byte)
-}
 
-// The state that the byte leads to from state s, or NONE.
-pub(crate) fn step(
-    graph: &[u16],
-    plan: &[u16],
-    tables: &[u8; SIZE],
-    ends: &[u16],
-    tests: &[u8],
-    s: usize,
-    byte: u8,
-) -> usize
-    requires graph_value { graph_fits graph.now ≡ true }
-    requires plan_on { PlanOn (graph_from graph.now) plan.now }
-    requires ends_len { (length ends.now ≡ edges_size) × ((length tests.now ≡ tests_size) × Prepared (graph_from graph.now) ends.now tests.now) }
-    requires s_bound { (s < get_or graph.now 0 0) × (own_place base (get_or graph.now 0 0) ≤ length plan.now) }
-    ensures result_value { or_none no_state result ≡ led_by (graph_from graph.now) (get_or (rows_of base (graph_from graph.now) plan.now) s []) tables.now s byte }
-    ensures state { (result ≡ no_state → ⊥) → result < get_or graph.now 0 0 }
-{
-    let w = layout::edge(plan, s, 0);
-    if w == layout::TABLE as usize {
-        return words::graph::target(graph, s, byte as usize);
+    // Where edge j of state s leads the byte, if its test takes it.
+    fn along(&self, s: usize, j: usize, byte: u8) -> Option<usize>
+        requires s_bound { s < get_or self.now.graph.words.now 0 0 }
+        requires j_lt_edges { j < base.edges }
+        requires plain { get_or self.now.plan.now (edge_place base s 0) 0 ≡ table_word → ⊥ }
+        ensures { result ≡ led_along self.now.tables.now (state_of (graph_from self.now.graph.words.now) s) (slice_get (targets_of (graph_from self.now.graph.words.now) s) j) (get_or self.now.plan.now (edge_place base s j) 0) byte }
+    {
+        if self.takes(s, j, byte) {
+            Some(self.edges[edge_place(s, j)].target as usize)
+        } else {
+            None
+        }
     }
-    let first = edge_place(s, 0);
-    if edge_takes(tables, tests, w, first, byte) {
-        return words::word(ends, first);
+
+    // The state that the byte leads to from state s, if any.
+    pub(crate) fn step(&self, s: usize, byte: u8) -> Option<usize>
+        requires { s < get_or self.now.graph.words.now 0 0 }
+        ensures led { result ≡ led_by (graph_from self.now.graph.words.now) (get_or (rows_of base (graph_from self.now.graph.words.now) self.now.plan.now) s []) self.now.tables.now s byte }
+        ensures state { IfSome result (λ u. u < get_or self.now.graph.words.now 0 0) }
+    {
+        match layout::edge(self.plan, s, 0) {
+            EdgeWord::Table => self.graph.target(s, byte as usize),
+            _ => match self.along(s, 0, byte) {
+                Some(u) => Some(u),
+                None => self.along(s, 1, byte),
+            },
+        }
     }
-    let v = layout::edge(plan, s, 1);
-    let second = edge_place(s, 1);
-    if edge_takes(tables, tests, v, second, byte) {
-        return words::word(ends, second);
-    }
-    words::NONE
 }

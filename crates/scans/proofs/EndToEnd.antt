@@ -1,33 +1,29 @@
 -- A fresh scan of a text of length n has answered ended by call n + 1, and its tokens and gaps run end to end from 0 to n. Assumes nothing.
 use mathlib.Core.Path.{◌≡◌, refl, sym, ap, subst, ◌∙◌}
 use mathlib.Core.Bool.{true}
-use mathlib.Core.List.{List, [], ◌∷◌}
+use mathlib.Core.List.{List, []}
 use mathlib.Core.Logic.{⊎_elim}
 use Prim.Native.Nat.{ℕ, zero, suc, ◌+◌, ◌≤◌, ◌<◌}
 use native.Mathlib.Nat.{eq-or-lt_of_le}
 use native.Mathlib.Omega.{arith}
 use lib.ListN.{length, drop}
-use Rattle.lists.proofs.Bools.{Is, is, yes-is, no-is}
 use Rattle.graph_rules.specs.Graph.{Graph, graph_from, graph_fits}
 use Rattle.graph_rules.specs.Read.{read_graph}
-use Rattle.scans.specs.declared.scan.Entry.{Entry}
+use Rattle.scans.specs.declared.scan.Piece.{Piece}
 use Rattle.scans.specs.declared.scan.Scan.{Scan}
 use Rattle.scans.specs.declared.scan.Scanned.{Scanned}
-use Rattle.scans.specs.Scan.{reading_at, has_ended, fresh, entry_of, scanned_by, scan_of, next}
+use Rattle.scans.specs.Scan.{reading_at, has_ended, fresh, end_of, entry_of, scan_of, next}
 use Rattle.scans.specs.List.{Listing, go_on, one_more, list_for, calls_for, EndToEnd, no_more, token-first, gap-first}
-use Rattle.scans.proofs.Scans.{Moves, entry-moves}
+use Rattle.scans.proofs.Scans.{Moves, moves-token, moves-gap, moves-after, moves-within, entry-moves}
 use Rattle.scans.proofs.Filling.{list-ends, list-goes}
 
 pub record Ends (a b : ℕ) (l : Listing) : Type 0 where
   pub over : l.scan ≡ has_ended
   pub run : EndToEnd a b l.entries
 
-first : (a b : ℕ) (e : Entry) (l : Listing) → a < e.end → Ends e.end b l → Ends a b (one_more (scanned_by a e).answer l)
-first a b e l h r = record { over = r.over; run = go (is e.token) }
-  where
-    go : Is e.token → EndToEnd a b ((scanned_by a e).answer ∷ l.entries)
-    go (yes-is q) = rw q (token-first h r.run)
-    go (no-is q) = rw q (gap-first h r.run)
+first : (text : List ℕ) (a b : ℕ) (p : Piece) (l : Listing) → Moves text a p → Ends (end_of p) b l → Ends a b (one_more p l)
+first text a b p l (moves-token h k) r = record { over = r.over; run = token-first h r.run }
+first text a b p l (moves-gap h k) r = record { over = r.over; run = gap-first h r.run }
 
 -- from an offset on, with as many calls as bytes are left, and one more
 from-offset : (g : Graph) (text : List ℕ) (k o : ℕ) → o ≤ length text → length text < k + o → Ends o (length text) (list_for g text k (reading_at o))
@@ -42,11 +38,12 @@ from-offset g text (suc k) o h few = ⊎_elim at-end (inside (λ e a b. from-off
     inside : ((e : ℕ) → e ≤ length text → length text < k + e → Ends e (length text) (list_for g text k (reading_at e))) → o < length text
         → Ends o (length text) (list_for g text (suc k) (reading_at o))
     inside more l =
-        let e = entry_of text o (read_graph g (drop o text)) in
-        let m : Moves text o e = entry-moves g text o l in
-        let m-after : o < e.end = m.after in
+        let p = entry_of text o (read_graph g (drop o text)) in
+        let m : Moves text o p = entry-moves g text o l in
+        let after : o < end_of p = moves-after m in
+        let within : end_of p ≤ length text = moves-within m in
         subst (λ (x : Listing). Ends o (length text) x) (sym (list-goes g text k o l))
-        (first o (length text) e _ m.after (more e.end m.within (omega arith)))
+        (first text o (length text) p _ m (more (end_of p) within (omega arith)))
 
 pub scan-ends-by : (g : Graph) (text : List ℕ) → Ends 0 (length text) (list_for g text (length text + 1) fresh)
 scan-ends-by g text = from-offset g text (length text + 1) 0 (omega arith) (omega arith)

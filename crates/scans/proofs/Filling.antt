@@ -1,53 +1,41 @@
 -- A text's entries written into a buffer, one after another: what is written, and what repeated calls would still give, are together the whole list.
 -- Assumes nothing.
+use Rattle.std.specs.Prelude.{Ok}
 use mathlib.Core.Path.{◌≡◌, refl, sym, ap, subst, ◌∙◌}
-use mathlib.Core.List.{List, [], ◌∷◌, ◌++◌, flat_map, append_assoc, append-nil}
+use mathlib.Core.List.{List, [], ◌++◌, flat_map, append_assoc, append-nil}
 use Prim.Native.Nat.{ℕ, suc, ◌+◌, ◌-◌, ◌*◌, ◌≤◌, ◌<◌}
 use native.Mathlib.Omega.{arith}
 use lib.ListN.{length, drop, length-append}
 use lib.Seq.{sets}
-use Rattle.lists.proofs.Bools.{Is, is, yes-is, no-is}
 use Rattle.lists.proofs.Buffers.{Filled, filled_none, filled-run}
 use Rattle.graph_rules.specs.Graph.{Graph}
 use Rattle.graph_rules.specs.Read.{read_graph}
-use Rattle.scans.specs.declared.scan.Entry.{Entry}
+use Rattle.scans.specs.declared.scan.Piece.{Piece}
+use Rattle.scans.specs.declared.scan.Piece.TheVariants.{Token, Gap}
 use Rattle.scans.specs.declared.scan.Scanned.{Scanned}
 use Rattle.scans.specs.declared.scan.Scan.{Scan}
 use Rattle.scans.specs.declared.scan.Place.TheVariants.{Reading as ReadingAt}
-use Rattle.scans.specs.declared.list.ListAnswer.TheVariants.{Listed as Entries}
-use Rattle.scans.specs.Scan.{reading_at, has_ended, entry_of, scanned_by}
-use Rattle.scans.specs.List.{entry_size, entry_words, leaf_word, Listing, one_more, go_on, list_for, list_words, listed_by}
+use Rattle.scans.specs.Scan.{reading_at, has_ended, end_of, entry_of}
+use Rattle.scans.specs.List.{entry_size, entry_words, Listing, one_more, go_on, list_for, list_words, listed_by}
 use Rattle.scans.proofs.Entries.{scan-ends, scan-goes}
-use Rattle.scans.proofs.Scans.{Moves, entry-moves}
+use Rattle.scans.proofs.Scans.{Moves, moves-within, entry-moves}
 
 -- ---- one call more
 
-abbrev entry_at : Graph → List ℕ → ℕ → Entry
+abbrev entry_at : Graph → List ℕ → ℕ → Piece
 entry_at g text at = entry_of text at (read_graph g (drop at text))
 
-pub entry-words : (at : ℕ) (e : Entry) → entry_words (scanned_by at e).answer ≡ at ∷ e.end ∷ leaf_word e ∷ []
-entry-words at e = go (is e.token)
-  where
-    go : Is e.token → entry_words (scanned_by at e).answer ≡ at ∷ e.end ∷ leaf_word e ∷ []
-    go (yes-is q) = rw q
-    go (no-is q) = rw q
+pub entry-size : (p : Piece) → length (entry_words p) ≡ entry_size
+entry-size (Token leaf start end) = refl
+entry-size (Gap start end) = refl
 
 module _ (g : Graph) (text : List ℕ) (k at : ℕ) where
   pub list-ends : at ≡ length text → list_for g text (suc k) (reading_at at) ≡ record { entries = []; scan = has_ended }
   list-ends q = ap (λ (a : Scanned). go_on (λ s. list_for g text k s) a.answer a.scan) (scan-ends g text (ReadingAt at) at refl q)
 
   pub list-goes : at < length text
-      → list_for g text (suc k) (reading_at at) ≡ one_more (scanned_by at (entry_at g text at)).answer (list_for g text k (reading_at (entry_at g text at).end))
-  list-goes h =
-      ap (λ (a : Scanned). go_on (λ s. list_for g text k s) a.answer a.scan) (scan-goes g text (ReadingAt at) at refl (omega arith) (λ q. omega arith))
-      ∙ go (entry_at g text at)
-    where
-      go : (e : Entry) → go_on (λ s. list_for g text k s) (scanned_by at e).answer (reading_at e.end) ≡ one_more (scanned_by at e).answer (list_for g text k (reading_at e.end))
-      go e = by (is e.token)
-        where
-          by : Is e.token → go_on (λ s. list_for g text k s) (scanned_by at e).answer (reading_at e.end) ≡ one_more (scanned_by at e).answer (list_for g text k (reading_at e.end))
-          by (yes-is q) = rw q
-          by (no-is q) = rw q
+      → list_for g text (suc k) (reading_at at) ≡ one_more (entry_at g text at) (list_for g text k (reading_at (end_of (entry_at g text at))))
+  list-goes h = ap (λ (a : Scanned). go_on (λ s. list_for g text k s) a.answer a.scan) (scan-goes g text (ReadingAt at) at refl (omega arith) (λ q. omega arith))
 
 -- ---- the buffer
 
@@ -92,11 +80,11 @@ module _ (g : Graph) (text : List ℕ) (from room : ℕ) (found out : List ℕ) 
 
   -- nothing is left but the scan
   module _ (s : Scan) (e : list_for g text (room - n) (reading_at at) ≡ record { entries = []; scan = s }) where
-    pub done-listed : record { answer = Entries n; scan = s } ≡ listed_by whole
+    pub done-listed : record { answer = Ok n; scan = s } ≡ listed_by whole
     done-listed =
         let (w, c, q) = known (record { entries = []; scan = s }) e in
         let c' : n ≡ length whole.entries = omega arith in
-        (λ i. record { answer = Entries (c' i); scan = q i })
+        (λ i. record { answer = Ok (c' i); scan = q i })
 
     pub done-buffer : out ≡ list_words whole ++ drop (length (list_words whole)) found
     unfolding list_words flat_map
@@ -115,34 +103,29 @@ module _ (g : Graph) (text : List ℕ) (from room : ℕ) (found out : List ℕ) 
     pub left-ends : at ≡ length text → list_for g text (room - n) (reading_at at) ≡ record { entries = []; scan = has_ended }
     left-ends q = ap (λ (k : ℕ). list_for g text k (reading_at at)) one_less ∙ list-ends g text (room - (n + 1)) at q
 
-    module _ (inside : at < length text) (fits : entry_size * room ≤ length found) (e : Entry) (is-entry : e ≡ entry_at g text at) where
-      abbrev more-words : List ℕ
-      more-words = at ∷ e.end ∷ leaf_word e ∷ []
-
-      rest : list_for g text (room - n) (reading_at at) ≡ one_more (scanned_by at e).answer (list_for g text (room - (n + 1)) (reading_at e.end))
+    module _ (inside : at < length text) (fits : entry_size * room ≤ length found) (e : Piece) (is-entry : e ≡ entry_at g text at) where
+      rest : list_for g text (room - n) (reading_at at) ≡ one_more e (list_for g text (room - (n + 1)) (reading_at (end_of e)))
       rest =
           ap (λ (k : ℕ). list_for g text k (reading_at at)) one_less
           ∙ list-goes g text (room - (n + 1)) at inside
-          ∙ ap (λ (x : Entry). one_more (scanned_by at x).answer (list_for g text (room - (n + 1)) (reading_at x.end))) (sym is-entry)
+          ∙ ap (λ (x : Piece). one_more x (list_for g text (room - (n + 1)) (reading_at (end_of x)))) (sym is-entry)
 
       abbrev after : Listing
-      after = list_for g text (room - (n + 1)) (reading_at e.end)
+      after = list_for g text (room - (n + 1)) (reading_at (end_of e))
 
-      pub filling-more : Filling g text from room found (sets out (entry_size * n) more-words) (n + 1) e.end
+      pub filling-more : Filling g text from room found (sets out (entry_size * n) (entry_words e)) (n + 1) (end_of e)
       unfolding list_words flat_map
       filling-more =
-          let (w, c, q) = known (one_more (scanned_by at e).answer after) rest in
-          let moves : Moves text at e = subst (λ (x : Entry). Moves text at x) (sym is-entry) (entry-moves g text at inside) in
+          let (w, c, q) = known (one_more e after) rest in
+          let moves : Moves text at e = subst (λ (x : Piece). Moves text at x) (sym is-entry) (entry-moves g text at inside) in
+          let size = entry-size e in
           record {
-            wrote = f.wrote ++ more-words;
-            filled = filled-run (entry_size * n) more-words f.filled f.size (omega arith);
-            size = length-append f.wrote more-words ∙ (let s = f.size in omega arith);
+            wrote = f.wrote ++ entry_words e;
+            filled = filled-run (entry_size * n) (entry_words e) f.filled f.size (omega arith);
+            size = length-append f.wrote (entry_words e) ∙ (let s = f.size in omega arith);
             few = omega arith;
-            within = moves.within;
-            words =
-                append_assoc f.wrote more-words (list_words after)
-                ∙ ap (λ (l : List ℕ). f.wrote ++ (l ++ list_words after)) (sym (entry-words at e))
-                ∙ w;
+            within = moves-within moves;
+            words = append_assoc f.wrote (entry_words e) (list_words after) ∙ w;
             count = omega arith;
             scan = q;
           }

@@ -1,4 +1,5 @@
 -- What the list call answers, once its refusals are decided. Assumes nothing.
+use Rattle.refusals.specs.declared.Refusal.TheVariants.{GraphForm, PlanOrOffset, ScanEnded}
 use mathlib.Core.Path.{◌≡◌, refl, sym, ap, ◌∙◌}
 use mathlib.Core.Bool.{true, false}
 use mathlib.Core.List.{List}
@@ -22,7 +23,7 @@ module _ (graph text : List ℕ) (p : Place) (out : List ℕ) where
   abbrev scan : Scan
   scan = record { place = p }
 
-  pub list-unfit : graph_fits graph ≡ false → scan_list graph text scan out ≡ no_list 12 scan out
+  pub list-unfit : graph_fits graph ≡ false → scan_list graph text scan out ≡ no_list GraphForm scan out
   unfolding scan_list
   list-unfit e = rw (e, scan_list)
 
@@ -37,10 +38,10 @@ module _ (graph text : List ℕ) (p : Place) (out : List ℕ) where
     by_answer : (a : Scanned) → scan_at g text p ≡ a → scan_list graph text scan out ≡ unless_refused a.answer scan out (list_for g text (length out / entry_size) scan)
     by_answer a e = taken ∙ ap (λ (x : Scanned). unless_refused x.answer scan out (list_for g text (length out / entry_size) scan)) e
 
-    pub list-past : (o : ℕ) → p ≡ ReadingAt o → length text < o → scan_list graph text scan out ≡ no_list 14 scan out
+    pub list-past : (o : ℕ) → p ≡ ReadingAt o → length text < o → scan_list graph text scan out ≡ no_list PlanOrOffset scan out
     list-past o e h = by_answer _ (scan-past g text p o e h)
 
-    pub list_over : p ≡ HasEnded → scan_list graph text scan out ≡ no_list 16 scan out
+    pub list_over : p ≡ HasEnded → scan_list graph text scan out ≡ no_list ScanEnded scan out
     list_over e = by_answer _ (scan-over g text p e)
 
     pub list-taken : (o : ℕ) → p ≡ ReadingAt o → o ≤ length text → scan_list graph text scan out ≡ list_from graph text o out

@@ -4,4 +4,5 @@
 #![tactic(auto)]
 
 pub mod list;
+pub mod reader;
 pub mod scan;

@@ -1,72 +1,71 @@
 // A whole text scanned into a lent buffer: three words an entry, start, end, and leaf or 65,535 for a gap.
-ghost use Rattle.std.specs.Prelude.{◌≡◌, true, [], ◌∷◌, ◌*◌, ◌/◌, ◌<◌, ◌≤◌, length};
+ghost use Rattle.std.specs.Prelude.{◌≡◌, ◌*◌, ◌/◌, ◌<◌, ◌≤◌, length};
 ghost use Rattle.std.proofs.lemmas.List.Edits.{sets};
-ghost use Rattle.graph_rules.specs.Graph.{graph_fits};
-ghost use Rattle.scans.specs.List.{entry_size, leaf_word, list_from, scan_list};
+ghost use Rattle.scans.specs.List.{entry_size, entry_words, list_from, scan_list};
 
-use crate::scan::{Entry, Place, Scan};
-
-#[derive(Clone, Copy)]
-pub enum ListAnswer {
-    Listed(usize),
-    Refused(u8),
-}
+use crate::reader::Reader;
+use crate::scan::{Piece, Place, Scan, entry};
+use refusals::Refusal;
+use words::graph::Graph;
 
 // The number of entries, or a refusal; and the scan after them.
 #[derive(Clone, Copy)]
 pub struct Listed {
-    pub answer: ListAnswer,
+    pub answer: Result<usize, Refusal>,
     pub scan: Scan,
 }
 
 // The words of an entry: start, end, and leaf or GAP.
 pub const ENTRY: usize = 3;
 
+// It stays a word, since the buffer is C's: flat, three words an entry.
 const GAP: usize = 65535;
 
-// The third word of an entry.
-fn leaf_word(e: Entry) -> usize
-    ensures { result ≡ leaf_word e }
+// A piece as an entry.
+fn words_of(piece: Piece) -> [usize; ENTRY]
+    ensures { result ≡ entry_words piece }
 {
-    if e.token { e.leaf } else { GAP }
+    match piece {
+        Piece::Token { leaf, start, end } => [start, end, leaf],
+        Piece::Gap { start, end } => [start, end, GAP],
+    }
 }
 
-// Entry n, which begins at an offset, written into its place.
-pub fn put_entry(out: &mut [usize], n: usize, at: usize, e: Entry)
+// Entry n, written into its place.
+fn put_entry(out: &mut [usize], n: usize, piece: Piece)
     requires { n < length out.old / entry_size }
-    ensures { out.new ≡ sets out.old (entry_size * n) (at ∷ (e.end ∷ (leaf_word e ∷ []))) }
+    ensures { out.new ≡ sets out.old (entry_size * n) (entry_words piece) }
 {
     let i = ENTRY * n;
-    out[i] = at;
-    out[i + 1] = e.end;
-    out[i + 2] = leaf_word(e);
+    let words = words_of(piece);
+    out[i] = words[0];
+    out[i + 1] = words[1];
+    out[i + 2] = words[2];
 }
 
-// Entries from an offset on, as many as there is room for, of well-formed graph words (refusal 12).
-fn fill(graph: &[u16], text: &[u8], from: usize, out: &mut [usize]) -> Listed
-    requires graph_value { graph_fits graph.now ≡ true }
-    requires from_in_bounds { from ≤ length text.now }
-    ensures { (result ≡ (list_from graph.now text.now from out.old).listed) × (out.new ≡ (list_from graph.now text.now from out.old).buffer) }
+// Entries from an offset on, as many as there is room for, by what reads as a graph does.
+pub fn fill<R: Reader>(reader: &R, text: &[u8], from: usize, out: &mut [usize]) -> Listed
+    requires { from ≤ length text.now }
+    ensures listed { result ≡ (list_from (R.words reader.now) text.now from out.old).listed }
+    ensures buffer { out.new ≡ (list_from (R.words reader.now) text.now from out.old).buffer }
 {
     let room = out.len() / ENTRY;
-    let mut n: usize = 0;
     let mut at = from;
-    while n < room {
+    for n in 0..room {
         if at == text.len() {
             return Listed {
-                answer: ListAnswer::Listed(n),
+                answer: Ok(n),
                 scan: Scan {
                     place: Place::Ended,
                 },
             };
         }
-        let e = crate::scan::read_entry(graph, text, at);
-        put_entry(out, n, at, e);
-        at = e.end;
-        n += 1;
+        let piece = entry(reader, text, at);
+        put_entry(out, n, piece);
+        at = piece.end();
     }
     Listed {
-        answer: ListAnswer::Listed(n),
+        answer: Ok(room),
         scan: Scan {
             place: Place::Reading(at),
         },
@@ -75,28 +74,19 @@ fn fill(graph: &[u16], text: &[u8], from: usize, out: &mut [usize]) -> Listed
 
 // A text's tokens and gaps from a scan on, as many as there is room for; or 12, 14 or 16, and the scan and the buffer unchanged.
 pub fn scan_list(scan: Scan, graph: &[u16], text: &[u8], out: &mut [usize]) -> Listed
-    ensures { (result ≡ (scan_list graph.now text.now scan out.old).listed) × (out.new ≡ (scan_list graph.now text.now scan out.old).buffer) }
+    ensures listed { result ≡ (scan_list graph.now text.now scan out.old).listed }
+    ensures buffer { out.new ≡ (scan_list graph.now text.now scan out.old).buffer }
 {
-    if !words::graph::fits(graph) {
-        return Listed {
-            answer: ListAnswer::Refused(12),
-            scan: scan,
-        };
-    }
-    let place = scan.place;
-    match place {
-        Place::Reading(at) => {
-            if text.len() < at {
-                return Listed {
-                    answer: ListAnswer::Refused(14),
-                    scan: scan,
-                };
-            }
-            fill(graph, text, at, out)
-        }
-        Place::Ended => Listed {
-            answer: ListAnswer::Refused(16),
-            scan: scan,
+    let refusal = match Graph::new(graph) {
+        Err(refusal) => refusal,
+        Ok(graph) => match scan.place {
+            Place::Reading(at) if at <= text.len() => return fill(&graph, text, at, out),
+            Place::Reading(_) => Refusal::PlanOrOffset,
+            Place::Ended => Refusal::ScanEnded,
         },
+    };
+    Listed {
+        answer: Err(refusal),
+        scan,
     }
 }

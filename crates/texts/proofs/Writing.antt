@@ -6,7 +6,7 @@ use native.Mathlib.Nat.{add-zero}
 use native.Mathlib.Omega.{arith}
 use native.Mathlib.Numerals.{add-one}
 use lib.ListN.{length, get_or, take, drop, length-append}
-use lib.Seq.{sets, length-sets, take-suc, take_all, length-take-le}
+use lib.Seq.{sets, length-sets, take-suc, length-take-le}
 use Rattle.lists.proofs.Buffers.{sets-append, sets-front}
 use Rattle.texts.specs.Text.{Wrote, Counts, one}
 
@@ -53,9 +53,6 @@ module _ (text : List ℕ) (i : ℕ) (h : i < length text) {found mid : List ℕ
 
   pub wrote-next : {out : List ℕ} {end : ℕ} → Wrote mid next (one (get_or text i 0)) out end → Wrote found at (take (i + 1) text) out end
   wrote-next b = wrote_as (sym (take-suc text i 0 h) ∙ ap (λ (k : ℕ). take k text) (sym (add-one i))) (wrote_then a b)
-
-pub wrote-all : (text : List ℕ) (i : ℕ) → length text ≤ i → {found out : List ℕ} {at next : ℕ} → Wrote found at (take i text) out next → Wrote found at text out next
-wrote-all text i h a = wrote_as (take_all i text h) a
 
 -- ---- a text that is written in parts: what is written, with what is to come, is the whole
 

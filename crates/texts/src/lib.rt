@@ -1,6 +1,8 @@
 // Texts, written into a lent buffer from a place on: a byte, the bytes of a text, a number in decimal. Each function hands out the place after what
 // it wrote. What passes the buffer's end is counted and not written, so that a run over no bytes measures a text.
 //
+// Buffer and place stay two parameters: a struct around the `&mut` would have each contract say both of what it lends and of itself, and read no plainer.
+//
 // Texts and the writing of them are defined in specs/Text.antt; texts written one after another are in proofs/Writing.antt, how many digits a number
 // has at most in proofs/Decimals.antt, texts with separators in proofs/Joins.antt.
 #![tactic(auto)]
@@ -24,8 +26,7 @@ pub fn pair(out: &mut [u8], at: usize, a: u8, b: u8) -> usize
     requires { Counts at (a ∷ b ∷ []) }
     ensures { Wrote out.old at (a ∷ b ∷ []) out.new result }
 {
-    let next = byte(out, at, a);
-    byte(out, next, b)
+    bytes(out, at, &[a, b])
 }
 
 // The bytes of a text.
@@ -34,10 +35,8 @@ pub fn bytes(out: &mut [u8], at: usize, text: &[u8]) -> usize
     ensures { Wrote out.old at text.now out.new result }
 {
     let mut next = at;
-    let mut i: usize = 0;
-    while i < text.len() {
-        next = byte(out, next, text[i]);
-        i += 1;
+    for &b in text {
+        next = byte(out, next, b);
     }
     next
 }

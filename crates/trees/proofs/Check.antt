@@ -1,6 +1,6 @@
 -- The check of a tree, as the code makes it: one record, every record, how often each is named, and all of it. Assumes nothing.
 use mathlib.Core.Path.{◌≡◌, sym, ap, ◌∙◌}
-use mathlib.Core.Bool.{Bool, true, false, ◌&&◌, ◌||◌}
+use mathlib.Core.Bool.{Bool, true, false, not, ◌&&◌, ◌||◌}
 use mathlib.Core.List.{List}
 use Prim.Native.Nat.{ℕ, ◌+◌, ◌-◌, ◌%◌, ◌≤◌, ◌<◌}
 use native.Mathlib.Nat.{pos_of_ne-zero}
@@ -12,31 +12,57 @@ use Rattle.lists.specs.Lists.{tab, all_l}
 use Rattle.lists.proofs.Bools.{and_both, and_intro, and-false, and-true, bool-ext, or_left, or_right, Order, order, less, equal, more, or-other}
 use Rattle.lists.proofs.Elements.{get_or-tab0}
 use Rattle.lists.proofs.Intervals.{from, all_from, from_all, count_none}
-use Rattle.trees.specs.Layout.{record_words, most_records, number_count}
+use Rattle.trees.specs.Layout.{record_words, most_records, number_count, kind_count, literal_kind}
 use Rattle.trees.specs.Tree.{count, record_of, numbers, rule_of, fields_fit, children_fit, literal_fits, record_fits, named, tree_fits}
-use Rattle.trees.specs.Held.{Numbered}
+use Rattle.trees.specs.Held.{Numbered, kind_number}
+use Rattle.trees.specs.declared.kind.Kind.{Kind}
 use Rattle.trees.specs.declared.tree.Record.{Record}
+use Rattle.trees.specs.declared.kind.Rule.{Rule}
+use Rattle.trees.proofs.KindRules.{kind-below}
 use Rattle.trees.proofs.TreeLaws.{RecordRules, record-rules}
 
 -- ---- one record
 
 module _ (w : List ℕ) (size i : ℕ) (r : Record) (e : r ≡ record_of w i) where
-  pub wrong-fields : fields_fit r ≡ false → false ≡ record_fits w size i
-  unfolding record_fits
-  wrong-fields h = rw (← e, h)
+  pub wrong-kind : kind_count ≤ r.kind → false ≡ record_fits w size i
+  unfolding record_fits fields_fit
+  wrong-kind h = rw (← e, le-ltb r.kind kind_count h)
 
-  pub wrong-child : fields_fit r ≡ true → i ≤ r.child → false ≡ record_fits w size i
-  unfolding record_fits
-  wrong-child f h = rw (← e, f, le-ltb r.child i h)
+  -- a kind, and its rule
+  module _ (kind : Kind) (k : r.kind ≡ kind_number kind) (rule : Rule) (is-rule : rule ≡ rule_of (kind_number kind)) where
+    tested : (b : Bool) → b ≡ ((rule.a || eqb r.a 0) && (rule.b || eqb r.b 0) && leb r.flags rule.flags) → fields_fit r ≡ b
+    unfolding fields_fit
+    tested b eb = rw (eb, is-rule, k, lt-ltb (kind_number kind) kind_count (kind-below kind))
 
-  pub wrong-next : fields_fit r ≡ true → r.child < i → i ≤ r.next → false ≡ record_fits w size i
-  unfolding record_fits
-  wrong-next f l h = rw (← e, f, lt-ltb r.child i l, le-ltb r.next i h)
+    module _ (fields : Bool) (is-fields : fields ≡ ((rule.a || eqb r.a 0) && (rule.b || eqb r.b 0) && leb r.flags rule.flags)) where
+      pub wrong-fields : fields ≡ false → false ≡ record_fits w size i
+      unfolding record_fits
+      wrong-fields h = let f = tested fields is-fields ∙ h in rw (← e, f)
 
-  pub right-so-far : fields_fit r ≡ true → r.child < i → r.next < i → (a b : Bool) → a ≡ children_fit w (rule_of r.kind).children r.child → b ≡ literal_fits size r
-      → (a && b) ≡ record_fits w size i
-  unfolding record_fits
-  right-so-far f l h a b ea eb = rw (← e, f, lt-ltb r.child i l, lt-ltb r.next i h, ea, eb)
+      module _ (right : fields ≡ true) where
+        pub wrong-child : i ≤ r.child → false ≡ record_fits w size i
+        unfolding record_fits
+        wrong-child h = let f = tested fields is-fields ∙ right in rw (← e, f, le-ltb r.child i h)
+
+        pub wrong-next : r.child < i → i ≤ r.next → false ≡ record_fits w size i
+        unfolding record_fits
+        wrong-next l h = let f = tested fields is-fields ∙ right in rw (← e, f, lt-ltb r.child i l, le-ltb r.next i h)
+
+        module _ (lc : r.child < i) (ln : r.next < i) (a : Bool) (ea : a ≡ children_fit w rule.children r.child) where
+          whole : (a && literal_fits size r) ≡ record_fits w size i
+          unfolding record_fits
+          whole =
+              let f = tested fields is-fields ∙ right in
+              let c : a ≡ children_fit w (rule_of r.kind).children r.child = ea ∙ (rw (is-rule, k)) in
+              rw (← e, f, lt-ltb r.child i lc, lt-ltb r.next i ln, c)
+
+          pub wrong-children : a ≡ false → a ≡ record_fits w size i
+          wrong-children h = h ∙ ap (λ (x : Bool). x && literal_fits size r) (sym h) ∙ whole
+
+          pub right-children : a ≡ true → (b : Bool) → b ≡ (not (eqb (kind_number kind) literal_kind) || leb (r.a + r.b) size) → b ≡ record_fits w size i
+          right-children h b eb =
+              let l : b ≡ literal_fits size r = eb ∙ (rw k) in
+              l ∙ ap (λ (x : Bool). x && literal_fits size r) (sym h) ∙ whole
 
 -- ---- every record: its indices are lower
 

@@ -15,6 +15,7 @@ use Rattle.lists.proofs.Elements.{length-tab, get_or-tab0}
 use Rattle.lists.proofs.Intervals.{from, count_most, count-more}
 use Rattle.trees.specs.Layout.{number_count}
 use Rattle.trees.specs.Tree.{count, record_of, named}
+use Rattle.trees.specs.Held.{Numbered}
 use Rattle.trees.specs.declared.tree.Record.{Record}
 
 -- a list of counts with one of them raised
@@ -90,3 +91,10 @@ module _ (w : List ℕ) where
       let k : i - 1 ≡ count w = omega arith in
       ext_get_or 0 times (tab 0 number_count (named w)) (t.long ∙ sym (length-tab 0 number_count (named w)))
       (λ j h. let u : j < number_count = rw t.long at h in t.each j u ∙ (rw k (sym (get_or-tab0 number_count (named w) j 0 u))))
+
+-- what a record names has a count
+pub names-in : (w : List ℕ) → Numbered w → (i : ℕ) → 1 ≤ i → i < count w + 1 → (r : Record) → r ≡ record_of w i → (r.child < number_count) × (r.next < number_count)
+names-in w n i l u r e =
+    let child : r.child < i = rw e (n.child i l (omega arith)) in
+    let next : r.next < i = rw e (n.next i l (omega arith)) in
+    (omega (arith, n.most), omega (arith, n.most))

@@ -1,14 +1,26 @@
--- What the inner functions ask of the words that they are given. Definitions only.
-use Rattle.std.specs.Prelude.{◌≡◌, true, List, ℕ, ◌≤◌, ◌<◌}
-use Rattle.lists.specs.Lists.{tab}
-use Rattle.utf8.specs.Utf8.{width_of}
-use Rattle.trees.specs.Tree.{count, record_of, tree_fits}
+-- What the code's types stand for. Definitions only.
+use Rattle.std.specs.Prelude.{◌≡◌, List, ℕ, ◌≤◌, ◌<◌, Result, Ok, Err}
+use Rattle.refusals.specs.declared.Refusal.{Refusal}
+use Rattle.refusals.specs.declared.Refusal.TheVariants.{TreeForm}
+use Rattle.trees.specs.Layout.{empty_kind, literal_kind, class_kind, look_kind, repetition_kind, capture_kind, concat_kind, alternation_kind, kind_count}
+use Rattle.trees.specs.Tree.{count, record_of}
+use Rattle.trees.specs.declared.kind.Kind.{Kind}
+use Rattle.trees.specs.declared.kind.Kind.TheVariants.{Empty, Literal, Class, Look, Repetition, Capture, Concat, Alternation}
 
--- the words are a tree over these bytes, these are the widths that lead bytes announce, and i is at most the number of records
-pub record Within (w bytes widths : List ℕ) (i : ℕ) : Type 0 where
-  pub fits : tree_fits w bytes ≡ true
-  pub table : widths ≡ tab 0 256 width_of
-  pub below : i ≤ count w
+abbrev pub kind_number : Kind → ℕ
+kind_number Empty = empty_kind
+kind_number Literal = literal_kind
+kind_number Class = class_kind
+kind_number Look = look_kind
+kind_number Repetition = repetition_kind
+kind_number Capture = capture_kind
+kind_number Concat = concat_kind
+kind_number Alternation = alternation_kind
+
+-- a word is decoded to the kind that has this number, and refused where none has it
+abbrev pub Decodes : ℕ → Result Kind Refusal → Type 0
+Decodes number (Ok kind) = number ≡ kind_number kind
+Decodes number (Err refusal) = (kind_count ≤ number) × (refusal ≡ TreeForm)
 
 -- there are at most 1,024 records, and each names lower ones
 pub record Numbered (w : List ℕ) : Type 0 where

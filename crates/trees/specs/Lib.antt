@@ -1,3 +1,4 @@
 pub mod Layout
 pub mod Tree
 pub mod Held
+pub mod Nodes

@@ -3,6 +3,9 @@
 use Rattle.std.specs.Prelude.{Bool, true, false, not, ◌&&◌, ◌||◌, List, [], ◌∷◌, ℕ, zero, suc, ◌+◌, ◌*◌, ◌-◌, ◌/◌, ◌%◌, eqb, leb, ltb, length, get_or, take, drop}
 use Rattle.lists.specs.Lists.{tab, all_l, those}
 use Rattle.trees.specs.declared.tree.Record.{Record}
+use Rattle.trees.specs.declared.kind.Rule.{Rule}
+use Rattle.trees.specs.declared.kind.Children.{Children}
+use Rattle.trees.specs.declared.kind.Children.TheVariants.{No, One, Any}
 
 -- ---- the words: six a record. Records are numbered from 1; the number 0 names none
 
@@ -79,32 +82,23 @@ root w bytes = tree_at w bytes (count w)
 
 -- ---- refusal 10: the rules, a sentence each
 
--- what a record of a kind may hold: in a, in b, the greatest flags, and how many children
-pub data Children : Type 0 where
-  no one any : Children
-
-pub record Rule : Type 0 where
-  pub a : Bool
-  pub b : Bool
-  pub flags : ℕ
-  pub children : Children
-
+-- what a record of a kind may hold: in a, in b, the greatest flags, and how many children (`Rule` of src/kind.rt)
 abbrev pub rule : Bool → Bool → ℕ → Children → Rule
 rule a b flags children = record { a = a; b = b; flags = flags; children = children }
 
 unfoldable pub rules : List Rule
 rules =
-    rule false false 0 no ∷  -- 0 empty
-    rule true true 0 no ∷  -- 1 literal
-    rule false false 1 no ∷  -- 2 class
-    rule false false 0 no ∷  -- 3 look
-    rule true false 3 one ∷  -- 4 repetition
-    rule false false 0 one ∷  -- 5 capture
-    rule false false 0 any ∷  -- 6 concat
-    rule false false 0 any ∷ []  -- 7 alternation
+    rule false false 0 No ∷  -- 0 empty
+    rule true true 0 No ∷  -- 1 literal
+    rule false false 1 No ∷  -- 2 class
+    rule false false 0 No ∷  -- 3 look
+    rule true false 3 One ∷  -- 4 repetition
+    rule false false 0 One ∷  -- 5 capture
+    rule false false 0 Any ∷  -- 6 concat
+    rule false false 0 Any ∷ []  -- 7 alternation
 
 unfoldable pub rule_of : ℕ → Rule
-rule_of kind = get_or rules kind (rule false false 0 no)
+rule_of kind = get_or rules kind (rule false false 0 No)
 
 -- "Every other field or flag is 0."
 unfoldable pub fields_fit : Record → Bool
@@ -120,9 +114,9 @@ indices_fit i r = ltb r.child i && ltb r.next i
 
 -- "Repetition and capture have one child, kinds 0 to 3 none."
 abbrev pub children_fit : List ℕ → Children → ℕ → Bool
-children_fit w no child = eqb child 0
-children_fit w one child = ltb 0 child && eqb (record_of w child).next 0
-children_fit w any child = true
+children_fit w No child = eqb child 0
+children_fit w One child = ltb 0 child && eqb (record_of w child).next 0
+children_fit w Any child = true
 
 -- "a literal passes its bytes"
 abbrev pub literal_fits : ℕ → Record → Bool

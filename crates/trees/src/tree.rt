@@ -1,8 +1,11 @@
 // The records of a pattern tree, and refusal 10: whether words and bytes are a tree.
-ghost use Rattle.std.specs.Prelude.{◌≡◌, ◌-◌, ◌<◌, ◌≤◌, eqb, get_or};
+ghost use Rattle.std.specs.Prelude.{◌≡◌, ◌-◌, ◌+◌, ◌<◌, ◌≤◌, ◌&&◌, ◌||◌, not, eqb, leb, get_or};
 ghost use Rattle.lists.specs.Lists.{tab, all_l};
-ghost use Rattle.trees.specs.Tree.{count, record_of, numbers, rule_of, fields_fit, children_fit, literal_fits, record_fits, named, tree_fits};
-ghost use Rattle.trees.specs.Held.{Numbered};
+ghost use Rattle.trees.specs.Layout.{literal_kind};
+ghost use Rattle.trees.specs.Tree.{count, record_of, numbers, children_fit, record_fits, named, tree_fits};
+ghost use Rattle.trees.specs.Held.{Numbered, kind_number};
+
+use crate::kind::{Children, Kind, Rule};
 
 // The words of a record.
 pub const WORDS: usize = 6;
@@ -11,31 +14,7 @@ pub const RECORDS: usize = 1024;
 // Their numbers, from 1, and 0, which names none.
 pub const NUMBERS: usize = RECORDS + 1;
 
-// The kinds of records that are told apart: 0 is empty, 3 a look.
-pub const LITERAL: u32 = 1;
-
-pub const CLASS: u32 = 2;
-
-pub const REPETITION: u32 = 4;
-
-pub const CAPTURE: u32 = 5;
-
-pub const CONCAT: u32 = 6;
-
-pub const ALTERNATION: u32 = 7;
-
-const KINDS: u32 = 8;
-
-// The flag of a class that is one of the six of `DOT_HIRS`.
-pub const DOT: u32 = 1;
-// The flags of a repetition, and both of them.
-pub const GREEDY: u32 = 1;
-
-pub const UNBOUNDED: u32 = 2;
-
-const BOTH: u32 = GREEDY + UNBOUNDED;
-
-// A record.
+// A record, as its words say it: unchecked, so its kind is a number still.
 #[derive(Clone, Copy)]
 pub struct Record {
     pub kind: u32,
@@ -66,52 +45,33 @@ pub fn record_at(tree: &[u32], i: usize) -> Record
     }
 }
 
-// The greatest flags that a record of a kind may have.
-fn most_flags(kind: u32) -> u32
-    ensures { result ≡ (rule_of kind).flags }
-{
-    match kind {
-        CLASS => DOT,
-        REPETITION => BOTH,
-        _ => 0,
-    }
-}
-
 // "Every other field or flag is 0."
-fn fields_fit(r: Record) -> bool
-    ensures { result ≡ fields_fit r }
+fn fields_fit(r: Record, rule: Rule) -> bool
+    ensures { result ≡ ((rule.a || eqb r.a 0) && (rule.b || eqb r.b 0) && leb r.flags rule.flags) }
 {
-    let literal = r.kind == LITERAL;
-    let most = most_flags(r.kind);
-    (r.kind < KINDS)
-        & (literal | (r.kind == REPETITION) | (r.a == 0))
-        & (literal | (r.b == 0))
-        & (r.flags <= most)
+    (rule.a || r.a == 0) && (rule.b || r.b == 0) && r.flags <= rule.flags
 }
 
 // "Repetition and capture have one child, kinds 0 to 3 none."
-fn children_fit(tree: &[u32], r: Record) -> bool
-    requires { (r.kind < 8) × (r.child ≤ count tree.now) }
-    ensures { result ≡ children_fit tree.now (rule_of r.kind).children r.child }
+fn children_fit(tree: &[u32], children: Children, child: usize) -> bool
+    requires { child ≤ count tree.now }
+    ensures { result ≡ children_fit tree.now children child }
 {
-    if r.kind < REPETITION {
-        return r.child == 0;
+    match children {
+        Children::No => child == 0,
+        Children::One => child != 0 && record_at(tree, child).next == 0,
+        Children::Any => true,
     }
-    if CAPTURE < r.kind {
-        return true;
-    }
-    if r.child == 0 {
-        return false;
-    }
-    let only = record_at(tree, r.child);
-    only.next == 0
 }
 
 // A literal does not pass its bytes.
-fn literal_fits(r: Record, size: usize) -> bool
-    ensures { result ≡ literal_fits size r }
+fn literal_fits(kind: Kind, r: Record, size: usize) -> bool
+    ensures { result ≡ (not (eqb (kind_number kind) literal_kind) || leb (r.a + r.b) size) }
 {
-    (r.kind != LITERAL) | ((r.a as usize) + (r.b as usize) <= size)
+    match kind {
+        Kind::Literal => (r.a as usize) + (r.b as usize) <= size,
+        _ => true,
+    }
 }
 
 // The rules of one record.
@@ -120,7 +80,11 @@ fn record_fits(tree: &[u32], size: usize, i: usize) -> bool
     ensures { result ≡ record_fits tree.now size i }
 {
     let r = record_at(tree, i);
-    if !fields_fit(r) {
+    let Ok(kind) = Kind::try_from(r.kind) else {
+        return false;
+    };
+    let rule = kind.rule();
+    if !fields_fit(r, rule) {
         return false;
     }
     if i <= r.child {
@@ -129,7 +93,7 @@ fn record_fits(tree: &[u32], size: usize, i: usize) -> bool
     if i <= r.next {
         return false;
     }
-    children_fit(tree, r) & literal_fits(r, size)
+    children_fit(tree, rule.children, r.child) && literal_fits(kind, r, size)
 }
 
 // The rules of every record.
@@ -137,12 +101,10 @@ fn records_fit(tree: &[u32], size: usize) -> bool
     ensures { result ≡ all_l (record_fits tree.now size) (numbers tree.now) }
 {
     let n = tree.len() / WORDS;
-    let mut i = 1;
-    while i <= n {
+    for i in 1..n + 1 {
         if !record_fits(tree, size, i) {
             return false;
         }
-        i += 1;
     }
     true
 }
@@ -154,14 +116,10 @@ fn times_named(tree: &[u32]) -> [u16; NUMBERS]
 {
     let n = tree.len() / WORDS;
     let mut times = [0u16; NUMBERS];
-    let mut i = 1;
-    while i <= n {
+    for i in 1..n + 1 {
         let r = record_at(tree, i);
-        let child = r.child;
-        let next = r.next;
-        times[child] += 1;
-        times[next] += 1;
-        i += 1;
+        times[r.child] += 1;
+        times[r.next] += 1;
     }
     times
 }
@@ -171,12 +129,10 @@ fn each_once(times: &[u16; NUMBERS], n: usize) -> bool
     requires { n ≤ 1024 }
     ensures { result ≡ all_l (λ i. eqb (get_or times.now i 0) 1) (tab 1 (n - 1) (λ i. i)) }
 {
-    let mut i = 1;
-    while i < n {
+    for i in 1..n {
         if times[i] != 1 {
             return false;
         }
-        i += 1;
     }
     true
 }

@@ -1,8 +1,8 @@
 -- The division of a text, a byte at a time: what is left of it, as a loop knows it. Assumes nothing.
+use Rattle.std.specs.Prelude.{Option, Some, None}
 use mathlib.Core.Path.{◌≡◌, refl, sym, ap, ◌∙◌}
 use mathlib.Core.Bool.{Bool, true, false, ◌&&◌, false≢true}
 use mathlib.Core.List.{List, [], ◌∷◌}
-use mathlib.Core.Option.{Option, none, some}
 use Prim.Native.Nat.{ℕ, zero, suc, ◌+◌, ◌-◌, ◌<◌, ◌≤◌}
 use native.Mathlib.Nat.{zero-add}
 use native.Mathlib.Numerals.{add-one, sub-one}
@@ -25,7 +25,7 @@ use Rattle.utf8.proofs.Division.{begins, passed, let_through, one_less}
 pub width-at : (table : List ℕ) → table ≡ tab 0 256 width_of → (b : ℕ) → b < 256 → get_or table b 0 ≡ width_of b
 width-at table e b h = rw e (get_or-tab0 256 width_of b 0 h)
 
-held_back : (t : Bool) (o : Option ℕ) → t ≡ false → ◌≡◌ {A = Option ℕ} (elim t as (λ _. Option ℕ) [ true ↦ o | false ↦ none ]) none
+held_back : (t : Bool) (o : Option ℕ) → t ≡ false → ◌≡◌ {A = Option ℕ} (elim t as (λ _. Option ℕ) [ true ↦ o | false ↦ None ]) None
 held_back true o e = absurd (false≢true (sym e))
 held_back false o e = refl
 
@@ -41,12 +41,12 @@ lead-byte : (b d : ℕ) (text : List ℕ) → b < 256 → width_of b ≡ suc d �
 unfolding width_of
 lead-byte b d text h e = line-leads b d text (line_of lines b) h refl e
 
-none-leads : (b : ℕ) (text : List ℕ) (l : List Range) → line_of lines b ≡ l → length l ≡ 0 → divided [] (b ∷ text) ≡ none
+none-leads : (b : ℕ) (text : List ℕ) (l : List Range) → line_of lines b ≡ l → length l ≡ 0 → divided [] (b ∷ text) ≡ None
 unfolding divided
 none-leads b text [] e n = rw (e, divided)
 none-leads b text (r ∷ rest) e n = absurd (omega arith)
 
-no_lead : (b : ℕ) (text : List ℕ) → width_of b ≡ 0 → divided [] (b ∷ text) ≡ none
+no_lead : (b : ℕ) (text : List ℕ) → width_of b ≡ 0 → divided [] (b ∷ text) ≡ None
 unfolding width_of
 no_lead b text e = none-leads b text (line_of lines b) refl e
 
@@ -55,27 +55,27 @@ unfolding divided
 in-range b zero low high text l h = let_through (within (span low high) b) (divided [] text) (and_intro _ _ (le-leb _ _ l) (le-leb _ _ h))
 in-range b (suc d) low high text l h = let_through (within (span low high) b) (divided (trail ∷ replicate d trail) text) (and_intro _ _ (le-leb _ _ l) (le-leb _ _ h))
 
-below-range : (b d low high : ℕ) (text : List ℕ) → b < low → divided (due_of (suc d) low high) (b ∷ text) ≡ none
+below-range : (b d low high : ℕ) (text : List ℕ) → b < low → divided (due_of (suc d) low high) (b ∷ text) ≡ None
 unfolding divided
 below-range b d low high text l = held_back (within (span low high) b) (divided (replicate d trail) text) (ap (λ (t : Bool). t && leb b high) (lt-leb _ _ l))
 
-above-range : (b d low high : ℕ) (text : List ℕ) → high < b → divided (due_of (suc d) low high) (b ∷ text) ≡ none
+above-range : (b d low high : ℕ) (text : List ℕ) → high < b → divided (due_of (suc d) low high) (b ∷ text) ≡ None
 unfolding divided
 above-range b d low high text h = held_back (within (span low high) b) (divided (replicate d trail) text) (and-right-false (leb low b) _ (lt-leb _ _ h))
 
 -- ---- the loop: n sequences have begun before index i, and `due` bytes of the last are still to come, the next of them in low..high
 
 abbrev pub plus : ℕ → Option ℕ → Option ℕ
-plus n none = none
-plus n (some m) = some (n + m)
+plus n None = None
+plus n (Some m) = Some (n + m)
 
 plus-zero : (o : Option ℕ) → plus 0 o ≡ o
-plus-zero none = refl
-plus-zero (some m) = ap {B = Option ℕ} some (zero-add m)
+plus-zero None = refl
+plus-zero (Some m) = ap {B = Option ℕ} Some (zero-add m)
 
 plus-more : (n : ℕ) (o : Option ℕ) → plus n (one_more o) ≡ plus (n + 1) o
-plus-more n none = refl
-plus-more n (some m) = ap {B = Option ℕ} some (omega arith)
+plus-more n None = refl
+plus-more n (Some m) = ap {B = Option ℕ} Some (omega arith)
 
 unfoldable pub Left : List ℕ → ℕ → ℕ → ℕ → ℕ → ℕ → Type 0
 Left text n due low high i = code_points text ≡ plus n (divided (due_of due low high) (drop i text))
@@ -103,7 +103,7 @@ module _ (text : List ℕ) where
         ∙ ap {B = Option ℕ} (λ (k : ℕ). plus (n + 1) (divided (due_of d (low_of b0) (high_of b0)) (drop k text))) (sym (add-one i))
     left-lead (suc d) e l b w = absurd (omega arith)
 
-    pub left-no-lead : (due : ℕ) → due ≡ 0 → Left text n due low high i → width_of (get_or text i 0) ≡ 0 → code_points text ≡ none
+    pub left-no-lead : (due : ℕ) → due ≡ 0 → Left text n due low high i → width_of (get_or text i 0) ≡ 0 → code_points text ≡ None
     left-no-lead zero e l w = next-byte 0 l ∙ ap {B = Option ℕ} (plus n) (no_lead (get_or text i 0) (drop (suc i) text) w)
     left-no-lead (suc d) e l w = absurd (omega arith)
 
@@ -115,38 +115,38 @@ module _ (text : List ℕ) where
         let step = next-byte (suc d) l ∙ ap {B = Option ℕ} (plus n) (in-range (get_or text i 0) d low high (drop (suc i) text) lo hi) in
         rw (sub-one, add-one) step
 
-    pub left_below : (due : ℕ) → (due ≡ 0 → ⊥) → Left text n due low high i → get_or text i 0 < low → code_points text ≡ none
+    pub left_below : (due : ℕ) → (due ≡ 0 → ⊥) → Left text n due low high i → get_or text i 0 < low → code_points text ≡ None
     left_below zero e l lo = absurd (e refl)
     left_below (suc d) e l lo = next-byte (suc d) l ∙ ap {B = Option ℕ} (plus n) (below-range (get_or text i 0) d low high (drop (suc i) text) lo)
 
-    pub left-above : (due : ℕ) → (due ≡ 0 → ⊥) → Left text n due low high i → high < get_or text i 0 → code_points text ≡ none
+    pub left-above : (due : ℕ) → (due ≡ 0 → ⊥) → Left text n due low high i → high < get_or text i 0 → code_points text ≡ None
     left-above zero e l hi = absurd (e refl)
     left-above (suc d) e l hi = next-byte (suc d) l ∙ ap {B = Option ℕ} (plus n) (above-range (get_or text i 0) d low high (drop (suc i) text) hi)
 
-  pub left_end : (n due low high i : ℕ) → due ≡ 0 → Left text n due low high i → length text ≤ i → code_points text ≡ some n
+  pub left_end : (n due low high i : ℕ) → due ≡ 0 → Left text n due low high i → length text ≤ i → code_points text ≡ Some n
   unfolding Left divided
-  left_end n zero low high i e l h = l ∙ ap {B = Option ℕ} (λ (r : List ℕ). plus n (divided [] r)) (drop_of_length-le text h) ∙ ap {B = Option ℕ} some (omega arith)
+  left_end n zero low high i e l h = l ∙ ap {B = Option ℕ} (λ (r : List ℕ). plus n (divided [] r)) (drop_of_length-le text h) ∙ ap {B = Option ℕ} Some (omega arith)
   left_end n (suc d) low high i e l h = absurd (omega arith)
 
-  pub left-short : (n due low high i : ℕ) → (due ≡ 0 → ⊥) → Left text n due low high i → length text ≤ i → code_points text ≡ none
+  pub left-short : (n due low high i : ℕ) → (due ≡ 0 → ⊥) → Left text n due low high i → length text ≤ i → code_points text ≡ None
   unfolding Left divided
   left-short n zero low high i e l h = absurd (e refl)
   left-short n (suc d) low high i e l h = l ∙ ap {B = Option ℕ} (λ (r : List ℕ). plus n (divided (due_of (suc d) low high) r)) (drop_of_length-le text h)
 
 -- ---- no more sequences than bytes
 
-line-bound : (l : List Range) (text : List ℕ) (n : ℕ) → (elim l as (λ _. Option ℕ) [ [] ↦ none | r ∷ due ↦ one_more (divided due text) ]) ≡ some n
-    → ((due : List Range) (m : ℕ) → divided due text ≡ some m → m ≤ length text) → n ≤ suc (length text)
+line-bound : (l : List Range) (text : List ℕ) (n : ℕ) → (elim l as (λ _. Option ℕ) [ [] ↦ None | r ∷ due ↦ one_more (divided due text) ]) ≡ Some n
+    → ((due : List Range) (m : ℕ) → divided due text ≡ Some m → m ≤ length text) → n ≤ suc (length text)
 line-bound [] text n e f = absurd (none-some e)
 line-bound (r ∷ due) text n e f = let m = one_less (divided due text) n e in let b : m.0 ≤ length text = f due m.0 m.1 in omega (arith, m.2)
 
-divided-bound : (due : List Range) (text : List ℕ) (n : ℕ) → divided due text ≡ some n → n ≤ length text
+divided-bound : (due : List Range) (text : List ℕ) (n : ℕ) → divided due text ≡ Some n → n ≤ length text
 unfolding divided
 divided-bound [] [] n e = let y : 0 ≡ n = some_inj e in omega arith
 divided-bound (r ∷ due) [] n e = absurd (none-some e)
 divided-bound (r ∷ due) (b ∷ text) n e = let h : n ≤ length text = divided-bound due text n (passed (within r b) (divided due text) n e).1 in omega arith
 divided-bound [] (b ∷ text) n e = line-bound (line_of lines b) text n e (λ due m d. divided-bound due text m d)
 
-pub points-bound : (text : List ℕ) (n : ℕ) → code_points text ≡ some n → n ≤ length text
+pub points-bound : (text : List ℕ) (n : ℕ) → code_points text ≡ Some n → n ≤ length text
 unfolding code_points
 points-bound text n e = divided-bound [] text n e

@@ -1,9 +1,9 @@
 -- The division of a text into the sequences of Table 3-7: there is at most one (`one-division`), and `code_points` counts its sequences
 -- (`points-divide`). Assumes nothing.
+use Rattle.std.specs.Prelude.{Option, Some, None}
 use mathlib.Core.Path.{◌≡◌, refl, sym, ap, ◌∙◌}
 use mathlib.Core.Bool.{Bool, true, false, false≢true}
 use mathlib.Core.List.{List, [], ◌∷◌, ◌++◌}
-use mathlib.Core.Option.{Option, none, some}
 use mathlib.Core.Logic.{◌↔◌}
 use Prim.Native.Nat.{ℕ, suc}
 use native.Mathlib.Omega.{arith}
@@ -16,17 +16,17 @@ use Rattle.utf8.proofs.LeadBytes.{led}
 -- ---- what an Option tells
 
 -- a test that lets through what is some
-pub passed : (t : Bool) (o : Option ℕ) (n : ℕ) → (elim t as (λ _. Option ℕ) [ true ↦ o | false ↦ none ]) ≡ some n → (t ≡ true) × (o ≡ some n)
+pub passed : (t : Bool) (o : Option ℕ) (n : ℕ) → (elim t as (λ _. Option ℕ) [ true ↦ o | false ↦ None ]) ≡ Some n → (t ≡ true) × (o ≡ Some n)
 passed true o n e = (refl, e)
 passed false o n e = absurd (none-some e)
 
-pub let_through : (t : Bool) (o : Option ℕ) → t ≡ true → (elim t as (λ _. Option ℕ) [ true ↦ o | false ↦ none ]) ≡ o
+pub let_through : (t : Bool) (o : Option ℕ) → t ≡ true → (elim t as (λ _. Option ℕ) [ true ↦ o | false ↦ None ]) ≡ o
 let_through true o e = refl
 let_through false o e = absurd (false≢true e)
 
-pub one_less : (o : Option ℕ) (n : ℕ) → one_more o ≡ some n → (m : ℕ) × (o ≡ some m) × (n ≡ suc m)
-one_less none n e = absurd (none-some e)
-one_less (some m) n e = (m, refl, sym (some_inj e))
+pub one_less : (o : Option ℕ) (n : ℕ) → one_more o ≡ Some n → (m : ℕ) × (o ≡ Some m) × (n ≡ suc m)
+one_less None n e = absurd (none-some e)
+one_less (Some m) n e = (m, refl, sym (some_inj e))
 
 -- ---- from a division to the count
 
@@ -50,7 +50,7 @@ one-sequence s text h =
     ∙ begins l.byte (l.rest ++ text) l.first l.due l.line
     ∙ ap {B = Option ℕ} one_more (through l.due l.rest text l.fits)
 
-counts : (parts : List (List ℕ)) → all_l admitted parts ≡ true → divided [] (joined parts) ≡ some (length parts)
+counts : (parts : List (List ℕ)) → all_l admitted parts ≡ true → divided [] (joined parts) ≡ Some (length parts)
 unfolding divided
 counts [] h = refl
 counts (s ∷ parts) h =
@@ -81,8 +81,8 @@ record Split (due : List Range) (text : List ℕ) (n : ℕ) : Type 0 where
   number : length parts ≡ n
 
 begun : (l : List Range) (b : ℕ) (text : List ℕ) (n : ℕ) → line_of lines b ≡ l
-    → (elim l as (λ _. Option ℕ) [ [] ↦ none | q ∷ due ↦ one_more (divided due text) ]) ≡ some n
-    → ((due : List Range) (m : ℕ) → divided due text ≡ some m → Split due text m) → Split [] (b ∷ text) n
+    → (elim l as (λ _. Option ℕ) [ [] ↦ None | q ∷ due ↦ one_more (divided due text) ]) ≡ Some n
+    → ((due : List Range) (m : ℕ) → divided due text ≡ Some m → Split due text m) → Split [] (b ∷ text) n
 unfolding admitted
 begun [] b text n e h later = absurd (none-some h)
 begun (r ∷ due) b text n e h later =
@@ -97,7 +97,7 @@ begun (r ∷ due) b text n e h later =
       number = ap suc d.number ∙ sym g;
     }
 
-split : (due : List Range) (text : List ℕ) (n : ℕ) → divided due text ≡ some n → Split due text n
+split : (due : List Range) (text : List ℕ) (n : ℕ) → divided due text ≡ Some n → Split due text n
 unfolding divided
 split [] [] n e = record { first = []; parts = []; whole = refl; fits = refl; each = refl; number = some_inj e }
 split (r ∷ due) [] n e = absurd (none-some e)
@@ -119,19 +119,19 @@ no_bytes [] f = refl
 no_bytes (b ∷ s) f = absurd (false≢true f)
 
 -- the count of code points is the number of sequences of a division
-pub points-divide : (text : List ℕ) (n : ℕ) → (code_points text ≡ some n) ↔ ((parts : List (List ℕ)) × Division text parts × (length parts ≡ n))
+pub points-divide : (text : List ℕ) (n : ℕ) → (code_points text ≡ Some n) ↔ ((parts : List (List ℕ)) × Division text parts × (length parts ≡ n))
 unfolding code_points
 points-divide text n = (there, back)
   where
-    there : divided [] text ≡ some n → (parts : List (List ℕ)) × Division text parts × (length parts ≡ n)
+    there : divided [] text ≡ Some n → (parts : List (List ℕ)) × Division text parts × (length parts ≡ n)
     there e =
         let d = split [] text n e in
         (d.parts, record { whole = sym (d.whole ∙ ap {B = List ℕ} (λ (x : List ℕ). x ++ joined d.parts) (no_bytes d.first d.fits)); each = d.each }, d.number)
 
-    back : (parts : List (List ℕ)) × Division text parts × (length parts ≡ n) → divided [] text ≡ some n
+    back : (parts : List (List ℕ)) × Division text parts × (length parts ≡ n) → divided [] text ≡ Some n
     back f =
         let (parts, d, e) = f in
-        ap {B = Option ℕ} (divided []) (sym d.whole) ∙ counts parts d.each ∙ ap {B = Option ℕ} some e
+        ap {B = Option ℕ} (divided []) (sym d.whole) ∙ counts parts d.each ∙ ap {B = Option ℕ} Some e
 
 -- ---- there is one division
 

@@ -23,9 +23,22 @@ const WIDTHS: [u8; 256] = [
     0, 0, 0, 0, 0, 0, 0, 0, 0, 0, 0,
 ];
 
-// The table, to be lent: a constant that is read in place is laid out anew at each reading.
-pub fn widths() -> [u8; 256]
-    ensures { result ≡ tab 0 256 width_of }
-{
-    WIDTHS
+// The table of widths, to be lent: a constant that is read in place is laid out anew at each reading.
+#[derive(Drop)]
+pub struct Widths {
+    table: [u8; 256],
+    ghost right: { table ≡ tab 0 256 width_of },
+}
+
+impl Widths {
+    pub fn new() -> Self {
+        Widths { table: WIDTHS }
+    }
+
+    // The width that a lead byte announces.
+    pub fn of(&self, lead: u8) -> u8
+        ensures { result ≡ width_of lead }
+    {
+        self.table[lead as usize]
+    }
 }

@@ -4,7 +4,10 @@ use mathlib.Core.List.{List, [], ◌++◌, append_assoc}
 use Prim.Native.Nat.{ℕ, suc, ◌+◌, ◌-◌, ◌≤◌, ◌<◌}
 use native.Mathlib.Nat.{add-sub_cancel_left}
 use native.Mathlib.Omega.{arith}
-use lib.ListN.{length, replicate, length-append, length-replicate, replicate-append-replicate}
+use borrow.Rule.Slice.PartMut.{put_mid}
+use Rattle.std.proofs.lemmas.List.{drop-drop}
+use Rattle.std.proofs.lemmas.List.Edits.{sets-eq}
+use lib.ListN.{length, take, drop, replicate, length-append, length-replicate, replicate-append-replicate}
 use lib.Seq.{sets, length-sets}
 use Rattle.lists.proofs.Buffers.{sets-append, sets-past}
 use Rattle.lists.proofs.Runs.{Underway, run_more}
@@ -68,3 +71,11 @@ module _ (list : List ℕ) (place k r : ℕ) {found all out : List ℕ} {from : 
 
   pub spread-many : length found < length all
   spread-many = let n = spread-longer list place k r more in let p = u.place in let l = u.long in omega arith
+
+-- ---- a part of a buffer, overwritten
+
+pub put_mid-sets : {A : Type 0} (l : List A) (i k : ℕ) (part : List A) → length part ≡ k → i + k ≤ length l → put_mid i k l part ≡ sets l i part
+put_mid-sets {A = A} l i k part long room =
+    ap (λ (rest : List A). take i l ++ (part ++ rest)) (drop-drop k i l ∙ ap (λ (n : ℕ). drop (i + n) l) (sym long))
+    ∙ sym (append_assoc (take i l) part (drop (i + length part) l))
+    ∙ sym (sets-eq part l i (omega arith))

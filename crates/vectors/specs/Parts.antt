@@ -1,10 +1,11 @@
 -- Buffers, compared with what is written into their front. Definitions only.
-use Rattle.std.specs.Prelude.{◌≡◌, Bool, true, List, ◌++◌, ℕ, ◌+◌, ◌-◌, ◌%◌, ◌≤◌, eqb, length, take, drop}
-use Rattle.lists.specs.Lists.{all_l, tab}
+use Rattle.std.specs.Prelude.{◌≡◌, Bool, true, List, ◌++◌, ℕ, ◌+◌, ◌-◌, ◌%◌, ◌≤◌, ◌==◌, length, take, drop}
+use Rattle.std.specs.List.{list_all}
+use Rattle.lists.specs.Lists.{tab}
 
 -- every element from i on is that value
-unfoldable pub rest_is : List ℕ → ℕ → ℕ → Bool
-rest_is a i value = all_l (λ x. eqb x value) (drop i a)
+abbrev pub rest_is : List ℕ → ℕ → ℕ → Bool
+rest_is a i value = list_all (λ x. x == value) (drop i a)
 
 -- a test that answers whether something holds
 abbrev pub Tells : Bool → Type 0 → Type 0

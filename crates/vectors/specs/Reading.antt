@@ -20,6 +20,6 @@ bit_at list at i = is_set (i % 8) (byte_at list (at + i / 8))
 abbrev pub flags_at : List ℕ → ℕ → List Bool
 flags_at list at = tab 0 256 (bit_at list at)
 
--- the n bytes at a place, if the list has them
-abbrev pub part_at : List ℕ → ℕ → ℕ → List ℕ
+-- the n elements at a place, if the list has them
+abbrev pub part_at : {A : Type 0} → List A → ℕ → ℕ → List A
 part_at list at n = cond (leb (at + n) (length list)) (take n (drop at list)) []

@@ -1,7 +1,8 @@
 -- What a program that replays a list prints: for each kind a line, as `classes 1423 alike, 0 differ`; which case was the first that differs, if one does;
 -- whether the list was read whole, and its checksum. Definitions only.
-use Rattle.std.specs.Prelude.{cond, List, [], ◌∷◌, ◌++◌, ℕ, ◌+◌, ◌*◌, ◌%◌, eqb, ltb, length, get_or}
+use Rattle.std.specs.Prelude.{cond, List, [], ◌∷◌, ◌++◌, ℕ, ◌+◌, ◌*◌, ◌%◌, eqb, length, slice_index_or, Option, Some, None}
 use Rattle.texts.specs.Text.{bytes, one, decimal}
+use Rattle.vectors.specs.Walk.{no_cases}
 use Rattle.vectors.specs.declared.walk.Walk.{Walk}
 
 -- a byte that ends a line
@@ -11,8 +12,8 @@ line_end = 10
 -- what stands behind the name of a kind
 unfoldable pub kind_text : Walk → ℕ → List ℕ
 kind_text w kind =
-    (bytes " " ++ decimal (get_or w.alike kind 0))
-    ++ ((bytes " alike, " ++ decimal (get_or w.differ kind 0)) ++ (bytes " differ" ++ one line_end))
+    (bytes " " ++ decimal (slice_index_or w.tallies kind no_cases).alike)
+    ++ ((bytes " alike, " ++ decimal (slice_index_or w.tallies kind no_cases).differ) ++ (bytes " differ" ++ one line_end))
 
 -- a byte of the kinds' names; at its line end, what stands behind the name of kind k
 unfoldable pub name_byte : ℕ → Walk → ℕ → List ℕ
@@ -26,8 +27,13 @@ unfoldable pub kind_lines : List ℕ → Walk → ℕ → List ℕ
 kind_lines [] w k = []
 kind_lines (b ∷ names) w k = name_byte b w k ++ kind_lines names w (after_byte b k)
 
-unfoldable pub first_line : Walk → List ℕ
-first_line w = cond (ltb w.first w.cases) ((bytes "first that differs: case " ++ decimal w.first) ++ one line_end) []
+abbrev pub first_text : ℕ → List ℕ
+first_text n = (bytes "first that differs: case " ++ decimal n) ++ one line_end
+
+-- which case was the first that differs, if one does
+abbrev pub first_line : Option ℕ → List ℕ
+first_line None = []
+first_line (Some n) = first_text n
 
 -- a sum of all bytes, by which a change of any one of them is seen
 unfoldable pub checksum : ℕ → List ℕ → ℕ
@@ -40,4 +46,4 @@ end_line list w =
     ++ one line_end
 
 abbrev pub reported : List ℕ → List ℕ → Walk → List ℕ
-reported names list w = kind_lines names w 0 ++ (first_line w ++ end_line list w)
+reported names list w = kind_lines names w 0 ++ (first_line w.first ++ end_line list w)

@@ -1,24 +1,35 @@
 -- The walk through a list, case by case, and what is counted on the way. Definitions only.
-use Rattle.std.specs.Prelude.{Bool, cond, not, List, ℕ, ◌+◌, min, ltb, length, get_or, set, replicate}
-use Rattle.vectors.specs.Reading.{word_at}
+use Rattle.std.specs.Prelude.{Bool, true, false, cond, List, ℕ, ◌+◌, min, ltb, length, slice_index_or, slice_set, replicate, Option, Some, None}
+use Rattle.vectors.specs.Reading.{word_at, byte_at}
 use Rattle.vectors.specs.Cases.{case_at, kind_of}
+use Rattle.vectors.specs.declared.walk.Tally.{Tally}
 use Rattle.vectors.specs.declared.walk.Walk.{Walk}
 
--- the largest number of 64 bits
-abbrev pub largest : ℕ
-largest = 18446744073709551615
-
--- one more; the largest number stays
+-- one more; the largest number of 64 bits stays
 abbrev pub more : ℕ → ℕ
 more n = min (n + 1) 18446744073709551615
 
 -- the kind of the case at a place
 abbrev pub kind_at : List ℕ → ℕ → ℕ
-kind_at list at = get_or list (at + 4) 0
+kind_at list at = byte_at list (at + 4)
 
--- one more of a kind, if it is to be counted; all kinds from 15 on count as one
-abbrev pub counted : List ℕ → ℕ → Bool → List ℕ
-counted counts kind wanted = cond wanted (set counts (min kind 15) (more (get_or counts (min kind 15) 0))) counts
+abbrev pub no_cases : Tally
+no_cases = record { alike = 0; differ = 0 }
+
+-- a tally with one case more
+abbrev pub told : Tally → Bool → Tally
+told t true = record { alike = more t.alike; differ = t.differ }
+told t false = record { alike = t.alike; differ = more t.differ }
+
+-- the tallies with one case more of a kind; all kinds from 15 on count as one
+abbrev pub counted : List Tally → ℕ → Bool → List Tally
+counted tallies kind same = slice_set tallies (min kind 15) (told (slice_index_or tallies (min kind 15) no_cases) same)
+
+-- which case was the first that differs, after one more
+abbrev pub first_of : Option ℕ → ℕ → Bool → Option ℕ
+first_of first number true = first
+first_of (Some n) number false = Some n
+first_of None number false = Some number
 
 -- before the first case; cases of a kind below `leading` belong to themselves
 abbrev pub begun : ℕ → Walk
@@ -27,9 +38,8 @@ begun leading = record {
   host = 0;
   leading = leading;
   cases = 0;
-  first = largest;
-  alike = replicate 16 0;
-  differ = replicate 16 0;
+  first = None;
+  tallies = replicate 16 no_cases;
 }
 
 -- whether the next case belongs to itself
@@ -47,7 +57,6 @@ noted list w same = record {
   host = cond (leads list w) w.at w.host;
   leading = w.leading;
   cases = more w.cases;
-  first = cond same w.first (min w.cases w.first);
-  alike = counted w.alike (kind_at list w.at) same;
-  differ = counted w.differ (kind_at list w.at) (not same);
+  first = first_of w.first w.cases same;
+  tallies = counted w.tallies (kind_at list w.at) same;
 }

@@ -3,7 +3,7 @@
 // A case is a slice of its own bytes, from its kind on: byte kind; byte, how many numbers; byte, how many parts; the numbers, a word each; for each
 // part a word, where it ends, counted from where the first begins; the parts. In the list a word stands before it, its length. The definitions are in
 // specs/Cases.antt.
-ghost use Rattle.std.specs.Prelude.{◌≡◌, ◌<◌, ◌-◌};
+ghost use Rattle.std.specs.Prelude.{◌≡◌, ◌<◌};
 ghost use Rattle.vectors.specs.Cases.{case_at, kind_of, number_of, end_of, part_of, shaped};
 ghost use Rattle.vectors.specs.Runs.{how_many, unpacked};
 
@@ -11,7 +11,7 @@ ghost use Rattle.vectors.specs.Runs.{how_many, unpacked};
 pub(crate) fn at(list: &[u8], at: usize) -> &[u8]
     ensures { result.now ≡ case_at list.now at }
 {
-    crate::part(list, crate::after(list, at, 4), crate::word(list, at))
+    crate::part(list, at.saturating_add(4), crate::word(list, at))
 }
 
 pub fn kind(case: &[u8]) -> usize
@@ -41,20 +41,13 @@ fn end(case: &[u8], k: usize) -> usize
     }
 }
 
-// By how much a place is beyond another; 0 where it is not.
-fn beyond(to: usize, from: usize) -> usize
-    ensures { result ≡ to - from }
-{
-    if to < from { 0 } else { to - from }
-}
-
 // Part k; none where it ends before it begins, or the case has not all of it.
 pub fn part(case: &[u8], k: usize) -> &[u8]
     requires { k < 256 }
     ensures { result.now ≡ part_of case.now k }
 {
     let from = end(case, k);
-    crate::part(case, from, beyond(end(case, k + 1), from))
+    crate::part(case, from, end(case, k + 1).saturating_sub(from))
 }
 
 // Whether a case has so many numbers and parts, and no byte more or less.
@@ -62,25 +55,22 @@ pub fn shaped(case: &[u8], numbers: usize, parts: usize) -> bool
     requires { parts < 256 }
     ensures { result ≡ shaped case.now numbers parts }
 {
-    if crate::count(case, 1) != numbers {
-        return false;
-    }
-    if crate::count(case, 2) != parts {
-        return false;
-    }
-    end(case, parts) == case.len()
+    crate::count(case, 1) == numbers
+        && crate::count(case, 2) == parts
+        && end(case, parts) == case.len()
 }
 
-// The words in runs that part k is, written into the front of a lent buffer: how many; more than it has room for, where they are more or the part is
+// The words in runs that part k is, written into the front of a lent buffer, as far as there is room: how many; none where they are more, or the part is
 // no runs.
-pub fn words(case: &[u8], k: usize, out: &mut [u16]) -> usize
+pub fn words(case: &[u8], k: usize, out: &mut [u16]) -> Option<usize>
     requires { k < 256 }
     ensures value { result ≡ how_many (part_of case.now k) out.old }
     ensures out_after { out.new ≡ unpacked (part_of case.now k) out.old }
 {
     let runs = part(case, k);
-    if runs.len() % 4 != 0 {
-        return out.len() + 1;
+    if runs.len() % 4 == 0 {
+        crate::words::unpack(runs, out)
+    } else {
+        None
     }
-    crate::words::unpack(runs, out)
 }

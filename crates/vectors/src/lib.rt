@@ -11,6 +11,7 @@ ghost use Rattle.vectors.specs.Reading.{byte_at, half_at, word_at, bit_at, flags
 pub mod cases;
 pub mod masks;
 pub mod parts;
+pub mod replay;
 pub mod report;
 pub mod walk;
 pub mod words;
@@ -23,65 +24,59 @@ pub fn space() -> [u8; 524288]
     [0; 524288]
 }
 
-fn least(a: usize, b: usize) -> usize
-    ensures { result ≡ min a b }
-{
-    if a < b { a } else { b }
-}
-
 // The byte at a place.
 pub fn byte(list: &[u8], at: usize) -> u8
     ensures { result ≡ byte_at list.now at }
 {
-    if at < list.len() { list[at] } else { 0 }
+    list.get(at).copied().unwrap_or(0)
+}
+
+// The byte k places on.
+fn byte_on(list: &[u8], at: usize, k: usize) -> u8
+    ensures { result ≡ byte_at list.now (at + k) }
+{
+    byte(list, at.saturating_add(k))
 }
 
 // The byte at a place, as a number.
 pub fn count(list: &[u8], at: usize) -> usize
     ensures { (result ≡ byte_at list.now at) × (result < 256) }
 {
-    byte(list, at) as usize
+    usize::from(byte(list, at))
 }
 
 // The half at a place: 16 bits, low byte first.
 pub fn half(list: &[u8], at: usize) -> usize
     ensures { (result ≡ half_at list.now at) × (result < 65536) }
 {
-    if list.len() <= at {
-        return 0;
-    }
-    count(list, at) + 256 * count(list, at + 1)
+    usize::from(u16::from_le_bytes([byte(list, at), byte_on(list, at, 1)]))
 }
 
 // The word at a place: 32 bits, low byte first.
 pub fn word(list: &[u8], at: usize) -> usize
     ensures { (result ≡ word_at list.now at) × (result < 4294967296) }
 {
-    if list.len() <= at {
-        return 0;
-    }
-    half(list, at) + 65536 * half(list, at + 2)
+    let bytes = [
+        byte(list, at),
+        byte_on(list, at, 1),
+        byte_on(list, at, 2),
+        byte_on(list, at, 3),
+    ];
+    u32::from_le_bytes(bytes) as usize
 }
 
 // The place n bytes on, or one past the end.
 pub fn after(list: &[u8], at: usize, n: usize) -> usize
     ensures { result ≡ min (at + n) (length list.now + 1) }
 {
-    let end = list.len() + 1;
-    if end <= at {
-        return end;
-    }
-    if end - at <= n {
-        return end;
-    }
-    at + n
+    at.saturating_add(n).min(list.len() + 1)
 }
 
 // Bit i from a place on: bit i mod 8 of byte i / 8.
 pub fn bit(list: &[u8], at: usize, i: usize) -> bool
     ensures { result ≡ bit_at list.now at i }
 {
-    bits::test_bit(byte(list, after(list, at, i / 8)), i % 8)
+    bits::test_bit(byte_on(list, at, i / 8), i % 8)
 }
 
 // The 256 flags of the class at a place: 32 bytes.
@@ -89,21 +84,21 @@ pub fn flags(list: &[u8], at: usize) -> [bool; 256]
     ensures { result ≡ flags_at list.now at }
 {
     let mut class = [false; 256];
-    for b in 0..256 {
-        class[b] = bit(list, at, b);
+    for (b, flag) in class.iter_mut().enumerate() {
+        *flag = bit(list, at, b);
     }
     class
 }
 
-// The n bytes at a place; none where the list has fewer.
-pub fn part(list: &[u8], at: usize, n: usize) -> &[u8]
+// The n elements at a place; none where the list has fewer.
+pub fn part<T>(list: &[T], at: usize, n: usize) -> &[T]
     ensures { result.now ≡ part_at list.now at n }
 {
-    if list.len() < at {
+    let Some(rest) = list.get(at..) else {
         return &list[..0];
+    };
+    match rest.get(..n) {
+        Some(part) => part,
+        None => &list[..0],
     }
-    if list.len() - at < n {
-        return &list[..0];
-    }
-    &list[at..at + n]
 }

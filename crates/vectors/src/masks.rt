@@ -15,17 +15,6 @@ fn mask_has(fill: u8, classes: &[u8], i: usize, b: usize) -> bool
     }
 }
 
-// The bit of mask i in its table's entry b.
-fn bit(fill: u8, classes: &[u8], i: usize, b: usize) -> u8
-    requires { i < 64 }
-{
-    if mask_has(fill, classes, i, b) {
-        1u8 << (i % 8)
-    } else {
-        0
-    }
-}
-
 // An entry's bits of the masks before mask i + k, and that of mask i + k.
 fn with_mask(bits: u8, fill: u8, classes: &[u8], i: usize, b: usize, k: usize) -> u8
     requires i_bound { i < 57 }
@@ -40,23 +29,19 @@ fn entry(fill: u8, classes: &[u8], t: usize, b: usize) -> u8
     requires { t < 8 }
     ensures { result ≡ masked fill classes.now (8 * t) b 8 }
 {
-    let i = 8 * t;
-    let mut bits = with_mask(0, fill, classes, i, b, 0);
-    bits = with_mask(bits, fill, classes, i, b, 1);
-    bits = with_mask(bits, fill, classes, i, b, 2);
-    bits = with_mask(bits, fill, classes, i, b, 3);
-    bits = with_mask(bits, fill, classes, i, b, 4);
-    bits = with_mask(bits, fill, classes, i, b, 5);
-    bits = with_mask(bits, fill, classes, i, b, 6);
-    with_mask(bits, fill, classes, i, b, 7)
+    let mut bits = 0;
+    for k in 0..8 {
+        bits = with_mask(bits, fill, classes, 8 * t, b, k);
+    }
+    bits
 }
 
 pub fn tables(fill: u8, classes: &[u8]) -> [u8; 2048]
     ensures { result ≡ tables fill classes.now }
 {
-    let mut tables = [0u8; 2048];
-    for i in 0..2048 {
-        tables[i] = entry(fill, classes, i / 256, i % 256);
+    let mut tables = [0; 2048];
+    for (i, bits) in tables.iter_mut().enumerate() {
+        *bits = entry(fill, classes, i / 256, i % 256);
     }
     tables
 }

@@ -1,22 +1,52 @@
 // A walk through a list, case by case, and what is counted on the way, by kind. The definitions are in specs/Walk.antt.
-ghost use Rattle.std.specs.Prelude.{◌≡◌, cond, not, ◌<◌, min, length};
+ghost use Rattle.std.specs.Prelude.{◌≡◌, ◌<◌, length};
 ghost use Rattle.vectors.specs.Cases.{case_at};
-ghost use Rattle.vectors.specs.Walk.{more, kind_at, counted, begun, host_of, noted};
+ghost use Rattle.vectors.specs.Walk.{kind_at, told, counted, first_of, begun, host_of, noted};
 
 // Kinds are 0 to 14; any other is counted as this one.
 const UNKNOWN: usize = 15;
 
-// The place of the next case; the place of the last one of a kind below `leading`, to which those of other kinds belong; how many cases there were, how
-// many of each kind were alike and how many differ, and the number of the first that differs, from 0.
+// How many cases of a kind were alike, and how many differ.
+#[derive(Clone, Copy)]
+pub struct Tally {
+    pub alike: usize,
+    pub differ: usize,
+}
+
+impl Tally {
+    pub const NONE: Tally = Tally {
+        alike: 0,
+        differ: 0,
+    };
+
+    // One case more; the largest number stays.
+    fn told(self, same: bool) -> Tally
+        ensures { result ≡ told self same }
+    {
+        if same {
+            Tally {
+                alike: self.alike.saturating_add(1),
+                differ: self.differ,
+            }
+        } else {
+            Tally {
+                alike: self.alike,
+                differ: self.differ.saturating_add(1),
+            }
+        }
+    }
+}
+
+// The place of the next case; the place of the last one of a kind below `leading`, to which those of other kinds belong; how many cases there were, which
+// of them, from 0, was the first that differs, and the tally of each kind.
 #[derive(Clone, Copy)]
 pub struct Walk {
     pub at: usize,
     pub host: usize,
     pub leading: usize,
     pub cases: usize,
-    pub first: usize,
-    pub alike: [usize; 16],
-    pub differ: [usize; 16],
+    pub first: Option<usize>,
+    pub tallies: [Tally; 16],
 }
 
 pub fn begun(leading: usize) -> Walk
@@ -27,9 +57,8 @@ pub fn begun(leading: usize) -> Walk
         host: 0,
         leading: leading,
         cases: 0,
-        first: 18446744073709551615,
-        alike: [0; 16],
-        differ: [0; 16],
+        first: None,
+        tallies: [Tally::NONE; 16],
     }
 }
 
@@ -51,58 +80,36 @@ pub fn host(list: &[u8], w: Walk) -> &[u8]
     crate::cases::at(list, w.host)
 }
 
-// One more; the largest number stays.
-fn more(n: usize) -> usize
-    ensures { result ≡ more n }
+// The tallies with one case more of a kind.
+fn counted(mut tallies: [Tally; 16], kind: usize, same: bool) -> [Tally; 16]
+    ensures { result ≡ counted tallies kind same }
 {
-    if n < 18446744073709551615 { n + 1 } else { n }
+    let k = kind.min(UNKNOWN);
+    tallies[k] = tallies[k].told(same);
+    tallies
 }
 
-fn chosen(one: bool, a: usize, b: usize) -> usize
-    ensures { result ≡ cond one a b }
+// The first case that differs, after case `number`.
+fn first_of(first: Option<usize>, number: usize, same: bool) -> Option<usize>
+    ensures { result ≡ first_of first number same }
 {
-    if one { a } else { b }
-}
-
-// Where a kind is counted.
-fn index(kind: usize) -> usize
-    ensures { result ≡ min kind 15 }
-{
-    crate::least(kind, UNKNOWN)
-}
-
-// One more of a kind, if it is to be counted.
-fn counted(counts: [usize; 16], kind: usize, wanted: bool) -> [usize; 16]
-    ensures { result ≡ counted counts kind wanted }
-{
-    let mut c = counts;
-    if wanted {
-        let k = index(kind);
-        c[k] = more(c[k]);
-    }
-    c
+    if same { first } else { first.or(Some(number)) }
 }
 
 // The next case was alike or not; and on to the one after it, or past the end of a list that has not all of it.
 pub fn noted(list: &[u8], w: Walk, same: bool) -> Walk
     ensures value { result ≡ noted list.now w same }
-    ensures counts { (result.alike ≡ counted w.alike (kind_at list.now w.at) same)
-        × (result.differ ≡ counted w.differ (kind_at list.now w.at) (not same)) }
+    ensures counts { result.tallies ≡ counted w.tallies (kind_at list.now w.at) same }
     ensures at_lt_at { w.at < length list.now → w.at < result.at }
 {
     let leads = crate::cases::kind(crate::cases::at(list, w.at)) < w.leading;
-    let kind = crate::count(list, crate::after(list, w.at, 4));
-    let alike = w.alike;
-    let differ = w.differ;
-    let alike_now = counted(alike, kind, same);
-    let differ_now = counted(differ, kind, !same);
+    let kind = usize::from(crate::byte_on(list, w.at, 4));
     Walk {
         at: crate::after(list, w.at, 4 + crate::word(list, w.at)),
-        host: chosen(leads, w.at, w.host),
+        host: if leads { w.at } else { w.host },
         leading: w.leading,
-        cases: more(w.cases),
-        first: chosen(same, w.first, crate::least(w.cases, w.first)),
-        alike: alike_now,
-        differ: differ_now,
+        cases: w.cases.saturating_add(1),
+        first: first_of(w.first, w.cases, same),
+        tallies: counted(w.tallies, kind, same),
     }
 }

@@ -1,8 +1,8 @@
 -- Words that are a graph's buffer: from what each word is (`written`), read back (`taken-words`), written over (`written_over`). Assumes nothing.
+use Rattle.std.specs.Prelude.{unwrap_or}
 use mathlib.Core.Path.{◌≡◌, refl, sym, ap, ◌∙◌}
 use mathlib.Core.Bool.{true}
 use mathlib.Core.List.{List, ◌++◌, append_assoc}
-use mathlib.Core.Option
 use mathlib.Core.Logic.{⊎_elim}
 use Prim.Native.Nat.{ℕ, zero, suc, ◌+◌, ◌*◌, ◌-◌, ◌/◌, ◌%◌, ◌≤◌, ◌<◌}
 use native.Mathlib.Omega.{arith}
@@ -40,8 +40,8 @@ module _ (m n : ℕ) (leaves : m ≤ no_leaf) (states : n ≤ most_states) (g : 
 
   module _ (w : List ℕ) (long : graph_size n ≤ length w)
       (states-are : get_or w 0 0 ≡ length g.states) (root_is : get_or w 1 0 ≡ g.root)
-      (targets-are : (s c : ℕ) → s < length g.states → c < step_count → get_or w (graph_place s c) 0 ≡ Option.get_or (to g s c) no_state)
-      (marks-are : (s : ℕ) → s < length g.states → get_or w (graph_place s marks_place) 0 ≡ marks_word (Option.get_or (accept_of g s) no_leaf) (Option.get_or (early_of g s) no_leaf))
+      (targets-are : (s c : ℕ) → s < length g.states → c < step_count → get_or w (graph_place s c) 0 ≡ unwrap_or (to g s c) no_state)
+      (marks-are : (s : ℕ) → s < length g.states → get_or w (graph_place s marks_place) 0 ≡ marks_word (unwrap_or (accept_of g s) no_leaf) (unwrap_or (early_of g s) no_leaf))
       (zeros-are : (i : ℕ) → graph_size (length g.states) ≤ i → i < graph_size n → get_or w i 0 ≡ 0) where
     row : (s c : ℕ) → s < count → c < row_words → get_or w (graph_place s c) 0 ≡ get_or (graph_words g) (graph_place s c) 0
     row s c h b =

@@ -40,11 +40,6 @@ module _ (w : List ℕ) (n : ℕ) (long : graph_size n ≤ length w) where
       all-false (row_fits n) rows i [] (rw pieces-length h)
       (all-false (target_fits n) (take step_count (get_or rows i [])) c 0 (let l = row-width i h in omega arith) (ap (target_fits n) (row_word i c h b) ∙ e))
 
--- what the code has read and tested of a target
-pub tested : (w : List ℕ) (n s c at u : ℕ) (r b : Bool) → at ≡ graph_place s c → u ≡ get_or w at 0 → r ≡ target_fits n u → r ≡ b
-    → target_fits n (get_or w (graph_place s c) 0) ≡ b
-tested w n s c at u r b p q e t = ap (λ (x : ℕ). target_fits n (get_or w x 0)) (sym p) ∙ ap (target_fits n) (sym q) ∙ sym e ∙ t
-
 -- ---- 12, condition by condition, as the code reads the count n and the root
 
 module _ (w : List ℕ) where

@@ -1,9 +1,8 @@
 -- The graph that well-formed words hold, and that only their count, root and targets decide whether they are well-formed. Assumes nothing.
+use Rattle.std.specs.Prelude.{Option, Some, None, unwrap_or}
 use mathlib.Core.Path.{◌≡◌, refl, sym, ap, subst, ◌∙◌}
 use mathlib.Core.Bool.{true, false, ◌||◌}
 use mathlib.Core.List.{List, []}
-use mathlib.Core.Option
-use mathlib.Core.Option.{Option, none, some}
 use mathlib.Core.Logic.{◌⊎◌, ⊎_elim}
 use Prim.Native.Nat.{ℕ, ◌≤◌, ◌<◌}
 use native.Mathlib.Omega.{arith}
@@ -67,19 +66,19 @@ module _ (w : List ℕ) (taken : graph_fits w ≡ true) where
 
   -- ---- its words, one by one
 
-  pub target_is : (s c : ℕ) → s < get_or w 0 0 → c < step_count → Option.get_or (to (graph_from w) s c) no_state ≡ get_or w (graph_place s c) 0
-  target_is s c h b = ap (λ (o : Option ℕ). Option.get_or o no_state) (from-to w (taken-long w taken) s h c b) ∙ or_word no_state (get_or w (graph_place s c) 0)
+  pub target_is : (s c : ℕ) → s < get_or w 0 0 → c < step_count → unwrap_or (to (graph_from w) s c) no_state ≡ get_or w (graph_place s c) 0
+  target_is s c h b = ap (λ (o : Option ℕ). unwrap_or o no_state) (from-to w (taken-long w taken) s h c b) ∙ or_word no_state (get_or w (graph_place s c) 0)
 
-  pub accept-is : (s : ℕ) → s < get_or w 0 0 → Option.get_or (accept_of (graph_from w) s) no_leaf ≡ accept_in (get_or w (graph_place s marks_place) 0)
-  accept-is s h = ap (λ (o : Option ℕ). Option.get_or o no_leaf) (from-accept w (taken-long w taken) s h) ∙ or_word no_leaf (accept_in (get_or w (graph_place s marks_place) 0))
+  pub accept-is : (s : ℕ) → s < get_or w 0 0 → unwrap_or (accept_of (graph_from w) s) no_leaf ≡ accept_in (get_or w (graph_place s marks_place) 0)
+  accept-is s h = ap (λ (o : Option ℕ). unwrap_or o no_leaf) (from-accept w (taken-long w taken) s h) ∙ or_word no_leaf (accept_in (get_or w (graph_place s marks_place) 0))
 
-  pub early-is : (s : ℕ) → s < get_or w 0 0 → Option.get_or (early_of (graph_from w) s) no_leaf ≡ early_in (get_or w (graph_place s marks_place) 0)
-  early-is s h = ap (λ (o : Option ℕ). Option.get_or o no_leaf) (from-early w (taken-long w taken) s h) ∙ or_word no_leaf (early_in (get_or w (graph_place s marks_place) 0))
+  pub early-is : (s : ℕ) → s < get_or w 0 0 → unwrap_or (early_of (graph_from w) s) no_leaf ≡ early_in (get_or w (graph_place s marks_place) 0)
+  early-is s h = ap (λ (o : Option ℕ). unwrap_or o no_leaf) (from-early w (taken-long w taken) s h) ∙ or_word no_leaf (early_in (get_or w (graph_place s marks_place) 0))
 
   -- ---- its edges
 
   -- an edge is one of the 257, and leads to a state
-  pub from-edge : (s c u : ℕ) → to (graph_from w) s c ≡ some u → (s < get_or w 0 0) × (c < step_count) × (get_or w (graph_place s c) 0 ≡ u) × (u < get_or w 0 0)
+  pub from-edge : (s c u : ℕ) → to (graph_from w) s c ≡ Some u → (s < get_or w 0 0) × (c < step_count) × (get_or w (graph_place s c) 0 ≡ u) × (u < get_or w 0 0)
   unfolding to
   from-edge s c u e =
       let h : s < get_or w 0 0 = rw (from-length w) at (edge-within g s c u e) in
@@ -87,45 +86,45 @@ module _ (w : List ℕ) (taken : graph_fits w ≡ true) where
       (λ b.
       let (x, y) = or_some no_state (get_or w (graph_place s c) 0) u (sym (from-to w (taken-long w taken) s h c b) ∙ e) in
       (h, b, x, ⊎_elim (λ l. subst (λ (z : ℕ). z < get_or w 0 0) x l) (λ l. absurd (y l)) (taken-target w taken s c h b)))
-      (λ b. absurd (none-some (sym (get_or-eq_default (state_of g s).steps none (rw (from-width w (taken-long w taken) s h) b)) ∙ e)))
+      (λ b. absurd (none-some (sym (get_or-eq_default (state_of g s).steps None (rw (from-width w (taken-long w taken) s h) b)) ∙ e)))
       (lt-or-le c step_count)
 
   -- what a target word says of its edge
-  module _ (s c r : ℕ) (r-is : r ≡ Option.get_or (to (graph_from w) s c) no_state) where
-    pub edge_none : r ≡ no_state → to (graph_from w) s c ≡ none
+  module _ (s c r : ℕ) (r-is : r ≡ unwrap_or (to (graph_from w) s c) no_state) where
+    pub edge_none : r ≡ no_state → to (graph_from w) s c ≡ None
     edge_none e = go (to g s c) refl
       where
-        go : (o : Option ℕ) → to g s c ≡ o → to g s c ≡ none
-        go none q = q
-        go (some u) q =
-            let a : r ≡ u = r-is ∙ ap (λ (o : Option ℕ). Option.get_or o no_state) q in
+        go : (o : Option ℕ) → to g s c ≡ o → to g s c ≡ None
+        go None q = q
+        go (Some u) q =
+            let a : r ≡ u = r-is ∙ ap (λ (o : Option ℕ). unwrap_or o no_state) q in
             let b = (from-edge s c u q).3 in
             let few = taken-few w taken in
             absurd (omega arith)
 
-    pub edge-some : (r ≡ no_state → ⊥) → (to (graph_from w) s c ≡ some r) × (r < get_or w 0 0)
+    pub edge-some : (r ≡ no_state → ⊥) → (to (graph_from w) s c ≡ Some r) × (r < get_or w 0 0)
     edge-some n = go (to g s c) refl
       where
-        go : (o : Option ℕ) → to g s c ≡ o → (to g s c ≡ some r) × (r < get_or w 0 0)
-        go none q = absurd (n (r-is ∙ ap (λ (o : Option ℕ). Option.get_or o no_state) q))
-        go (some u) q =
-            let a : r ≡ u = r-is ∙ ap (λ (o : Option ℕ). Option.get_or o no_state) q in
-            (q ∙ ap {B = Option ℕ} some (sym a), subst (λ (x : ℕ). x < get_or w 0 0) (sym a) (from-edge s c u q).3)
+        go : (o : Option ℕ) → to g s c ≡ o → (to g s c ≡ Some r) × (r < get_or w 0 0)
+        go None q = absurd (n (r-is ∙ ap (λ (o : Option ℕ). unwrap_or o no_state) q))
+        go (Some u) q =
+            let a : r ≡ u = r-is ∙ ap (λ (o : Option ℕ). unwrap_or o no_state) q in
+            (q ∙ ap {B = Option ℕ} Some (sym a), subst (λ (x : ℕ). x < get_or w 0 0) (sym a) (from-edge s c u q).3)
 
   -- ---- its leaves
 
   -- a leaf is not the word for none
-  no-leaf : (x : ℕ) → or_none no_leaf x ≡ some no_leaf → ⊥
+  no-leaf : (x : ℕ) → or_none no_leaf x ≡ Some no_leaf → ⊥
   no-leaf x e = let (p, q) = or_some no_leaf x no_leaf e in q p
 
-  pub accept-leaf : (s : ℕ) → accept_of (graph_from w) s ≡ some no_leaf → ⊥
+  pub accept-leaf : (s : ℕ) → accept_of (graph_from w) s ≡ Some no_leaf → ⊥
   accept-leaf s e =
       ⊎_elim
       (λ h. no-leaf (accept_in (get_or w (graph_place s marks_place) 0)) (sym (from-accept w (taken-long w taken) s h) ∙ e))
       (λ h. none-some (sym (out-accept g s (rw (from-length w) h)) ∙ e))
       (lt-or-le s (get_or w 0 0))
 
-  pub early-leaf : (s : ℕ) → early_of (graph_from w) s ≡ some no_leaf → ⊥
+  pub early-leaf : (s : ℕ) → early_of (graph_from w) s ≡ Some no_leaf → ⊥
   early-leaf s e =
       ⊎_elim
       (λ h. no-leaf (early_in (get_or w (graph_place s marks_place) 0)) (sym (from-early w (taken-long w taken) s h) ∙ e))
@@ -133,13 +132,13 @@ module _ (w : List ℕ) (taken : graph_fits w ≡ true) where
       (lt-or-le s (get_or w 0 0))
 
   -- an early leaf and an accept, compared by their words
-  module _ (p u x y : ℕ) (x-is : x ≡ Option.get_or (accept_of (graph_from w) u) no_leaf) (y-is : y ≡ Option.get_or (early_of (graph_from w) p) no_leaf) where
+  module _ (p u x y : ℕ) (x-is : x ≡ unwrap_or (accept_of (graph_from w) u) no_leaf) (y-is : y ≡ unwrap_or (early_of (graph_from w) p) no_leaf) where
     pub leaves-differ : (x ≡ y → ⊥) → eq_option (early_of (graph_from w) p) (accept_of (graph_from w) u) ≡ false
     leaves-differ n = go (is (eq_option (early_of g p) (accept_of g u)))
       where
         go : Is (eq_option (early_of g p) (accept_of g u)) → eq_option (early_of g p) (accept_of g u) ≡ false
         go (no-is q) = q
-        go (yes-is q) = absurd (n (x-is ∙ ap (λ (o : Option ℕ). Option.get_or o no_leaf) (sym (option-sound.eq (early_of g p) (accept_of g u) q)) ∙ sym y-is))
+        go (yes-is q) = absurd (n (x-is ∙ ap (λ (o : Option ℕ). unwrap_or o no_leaf) (sym (option-sound.eq (early_of g p) (accept_of g u) q)) ∙ sym y-is))
 
     pub leaves-agree : x ≡ y → eq_option (early_of (graph_from w) p) (accept_of (graph_from w) u) ≡ true
     leaves-agree e =
@@ -162,7 +161,7 @@ module _ (w : List ℕ) (taken : graph_fits w ≡ true) where
         root = rw (from-length w) root';
       }
     where
-      leaf : (x l : ℕ) → x < 256 → or_none no_leaf x ≡ some l → l < no_leaf
+      leaf : (x l : ℕ) → x < 256 → or_none no_leaf x ≡ Some l → l < no_leaf
       leaf x l h e = let (p, q) = or_some no_leaf x l e in omega (arith, q)
 
       root' : ((graph_from w).root < get_or w 0 0) ⊎ ((get_or w 0 0 ≡ 0) × ((graph_from w).root ≡ 0))

@@ -1,6 +1,6 @@
 pub mod Fitting
-pub mod Reading
 pub mod GraphWords
 pub mod Buffers
 pub mod Marking
 pub mod Edges
+pub mod Views

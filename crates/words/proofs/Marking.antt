@@ -1,10 +1,9 @@
 -- A pass over the states of a graph's words that rewrites their marks words one after another (rules 5 and 6): what has been passed has its new
 -- marks, all else is as it was. Assumes nothing.
+use Rattle.std.specs.Prelude.{Option, unwrap_or}
 use mathlib.Core.Path.{◌≡◌, refl, sym, ap, ◌∙◌}
 use mathlib.Core.Bool.{true}
 use mathlib.Core.List.{List, ◌++◌}
-use mathlib.Core.Option
-use mathlib.Core.Option.{Option}
 use Prim.Native.Nat.{ℕ, ◌+◌, ◌≤◌, ◌<◌}
 use native.Mathlib.Nat.{not-suc-le-zero}
 use native.Mathlib.Omega.{arith}
@@ -83,7 +82,7 @@ module _ (w₀ : List ℕ) (taken : graph_fits w₀ ≡ true) (mark : ℕ → �
   -- when all are passed: the buffer of a graph with the same edges and the new marks
   pub marked_all : s ≡ get_or w₀ 0 0 → (g : Graph) → Fits no_leaf n g → length g.states ≡ get_or w₀ 0 0 → g.root ≡ get_or w₀ 1 0
       → ((k c : ℕ) → to g k c ≡ to (graph_from w₀) k c)
-      → ((k : ℕ) → k < get_or w₀ 0 0 → mark k ≡ marks_word (Option.get_or (accept_of g k) no_leaf) (Option.get_or (early_of g k) no_leaf))
+      → ((k : ℕ) → k < get_or w₀ 0 0 → mark k ≡ marks_word (unwrap_or (accept_of g k) no_leaf) (unwrap_or (early_of g k) no_leaf))
       → w ≡ graph_buffer (get_or w₀ 0 0) g ++ drop (graph_size (get_or w₀ 0 0)) w₀
   marked_all all g f size root targets marks =
       let e = m.len in
@@ -91,6 +90,6 @@ module _ (w₀ : List ℕ) (taken : graph_fits w₀ ≡ true) (mark : ℕ → �
       rw (← marked-rest all)
       (written no_leaf n (omega arith) (taken-few w₀ taken) g f w (rw e long) (marked-count ∙ sym size) (marked-root ∙ sym root)
       (λ k c b l.
-      marked-target k c l ∙ sym (target_is w₀ taken k c (omega arith) l) ∙ ap (λ (o : Option ℕ). Option.get_or o no_state) (sym (targets k c)))
+      marked-target k c l ∙ sym (target_is w₀ taken k c (omega arith) l) ∙ ap (λ (o : Option ℕ). unwrap_or o no_state) (sym (targets k c)))
       (λ k b. m.done k (omega arith) ∙ marks k (omega arith))
       (λ i a b. absurd (omega arith)))

@@ -1,13 +1,14 @@
 // Graph words: 0 the number of states; 1 the root; then a row a state: the targets of the bytes 0 to 255, the end target, and the marks word, which
 // has the leaf that the state accepts in its low half and its early leaf in the high one. All other code reads and writes them by the views below.
-ghost use Rattle.std.specs.Prelude.{◌≡◌, true, [], ◌∷◌, ◌<◌, ◌≤◌, length, get_or, set, drop};
-ghost use Rattle.std.proofs.Math.Option;
+ghost use Rattle.std.specs.Prelude.{◌≡◌, true, false, [], ◌∷◌, ◌<◌, ◌≤◌, length, get_or, set, drop, unwrap_or, IfSome, MatchResult};
 ghost use Rattle.std.proofs.lemmas.List.Edits.{sets};
 ghost use Rattle.lists.specs.Lists.{all_l, pieces};
+ghost use Rattle.refusals.specs.declared.Refusal.TheVariants.{GraphForm};
 ghost use Rattle.graph_rules.specs.Layout.{step_count, no_state, most_states, row_words, marks_place, graph_place, graph_size, no_leaf, marks_word};
 ghost use Rattle.graph_rules.specs.Graph.{target_fits, row_fits, graph_fits, graph_from, to, accept_of, early_of};
 
-use crate::{NONE, STATES, STEPS};
+use crate::{NONE, STATES, STEPS, or_none};
+use refusals::Refusal;
 
 // The words of a row.
 pub const ROW: usize = 258;
@@ -47,14 +48,15 @@ pub fn set_word(graph: &mut [u16], s: usize, c: usize, word: u16)
     graph[place(s, c)] = word;
 }
 
-// The marks of state s become these.
-pub fn set_marks(graph: &mut [u16], s: usize, accept: usize, early: usize)
+// The marks of state s become these: the leaf that it accepts, and its early leaf.
+pub fn set_marks(graph: &mut [u16], s: usize, accept: Option<usize>, early: Option<usize>)
     requires s_bound { s < 65536 }
-    requires accept_le_no_leaf { (accept ≤ no_leaf) × (early ≤ no_leaf) }
+    requires accept_le_no_leaf { IfSome accept (λ l. l ≤ no_leaf) × IfSome early (λ l. l ≤ no_leaf) }
     requires marks_place_in_bounds { graph_place s marks_place < length graph.old }
-    ensures { graph.new ≡ set graph.old (graph_place s marks_place) (marks_word accept early) }
+    ensures { graph.new ≡ set graph.old (graph_place s marks_place) (marks_word (unwrap_or accept no_leaf) (unwrap_or early no_leaf)) }
 {
-    set_word(graph, s, MARKS, (accept + 256 * early) as u16);
+    let marks = accept.unwrap_or(NO_LEAF) + 256 * early.unwrap_or(NO_LEAF);
+    set_word(graph, s, MARKS, marks as u16);
 }
 
 // The number of states and the root become these.
@@ -81,24 +83,18 @@ fn targets_fit(graph: &[u16], n: usize) -> bool
     requires n_in_bounds { graph_size n ≤ length graph.now }
     ensures { result ≡ all_l (row_fits n) (pieces row_words n (drop 2 graph.now)) }
 {
-    let mut s: usize = 0;
-    while s < n {
-        let mut c: usize = 0;
-        while c < STEPS {
-            let at = place(s, c);
-            let u = crate::word(graph, at);
-            if !target_fits(n, u) {
+    for s in 0..n {
+        for c in 0..STEPS {
+            if !target_fits(n, word(graph, s, c)) {
                 return false;
             }
-            c += 1;
         }
-        s += 1;
     }
     true
 }
 
 // Whether the words are a graph's: not refused by 12.
-pub fn fits(graph: &[u16]) -> bool
+fn fits(graph: &[u16]) -> bool
     ensures { result ≡ graph_fits graph.now }
 {
     if graph.len() < 2 {
@@ -123,46 +119,70 @@ pub fn fits(graph: &[u16]) -> bool
 
 // ---- what well-formed words say
 
-// The number of states.
-pub fn states(graph: &[u16]) -> usize
-    requires { graph_fits graph.now ≡ true }
-    ensures { (result ≡ get_or graph.now 0 0) × (result ≤ most_states) }
-{
-    crate::word(graph, 0)
+// A graph by its words: whoever holds one knows that they are well-formed, and reads by it without a check. A state stays a number with its bound, which
+// a loop over all states has by itself.
+#[derive(Clone, Copy)]
+pub struct Graph<'a> {
+    pub words: &'a [u16],
+    pub ghost fits: { graph_fits words.now ≡ true },
 }
 
-// The root, 0 in a graph without states.
-pub fn root(graph: &[u16]) -> usize
-    requires { graph_fits graph.now ≡ true }
-    ensures { (result ≡ get_or graph.now 1 0) × (result < most_states) }
-{
-    crate::word(graph, 1)
-}
+impl<'a> Graph<'a> {
+    // The graph that these words are; refused by 12 where they are none.
+    pub fn new(words: &'a [u16]) -> Result<Graph<'a>, Refusal>
+        ensures { MatchResult result (λ graph. (graph.words.now ≡ words.now) × (graph_fits words.now ≡ true)) (λ refusal. (refusal ≡ GraphForm) × (graph_fits words.now ≡ false)) }
+    {
+        if fits(words) {
+            Ok(Graph { words })
+        } else {
+            Err(Refusal::GraphForm)
+        }
+    }
 
-// The target of state s by byte c, or by the end step; NONE if there is none.
-pub fn target(graph: &[u16], s: usize, c: usize) -> usize
-    requires graph_value { graph_fits graph.now ≡ true }
-    requires s_bound { s < get_or graph.now 0 0 }
-    requires c_lt_step_count { c < step_count }
-    ensures { result ≡ Option.get_or (to (graph_from graph.now) s c) no_state }
-{
-    word(graph, s, c)
-}
+    // The number of states.
+    #[inline]
+    pub fn states(self) -> usize
+        ensures { (result ≡ get_or self.entry.words.now 0 0) × (result ≤ most_states) }
+    {
+        crate::word(self.words, 0)
+    }
 
-// The leaf that state s accepts, or NO_LEAF.
-pub fn accept(graph: &[u16], s: usize) -> usize
-    requires graph_value { graph_fits graph.now ≡ true }
-    requires s_bound { s < get_or graph.now 0 0 }
-    ensures { (result ≡ Option.get_or (accept_of (graph_from graph.now) s) no_leaf) × (result ≤ no_leaf) }
-{
-    word(graph, s, MARKS) % 256
-}
+    // The root, 0 in a graph without states.
+    #[inline]
+    pub fn root(self) -> usize
+        ensures { (result ≡ get_or self.entry.words.now 1 0) × (result < most_states) }
+    {
+        crate::word(self.words, 1)
+    }
 
-// The early leaf of state s, or NO_LEAF.
-pub fn early(graph: &[u16], s: usize) -> usize
-    requires graph_value { graph_fits graph.now ≡ true }
-    requires s_bound { s < get_or graph.now 0 0 }
-    ensures { (result ≡ Option.get_or (early_of (graph_from graph.now) s) no_leaf) × (result ≤ no_leaf) }
-{
-    word(graph, s, MARKS) / 256
+    // The target of state s by byte c, or by the end step.
+    #[inline]
+    pub fn target(self, s: usize, c: usize) -> Option<usize>
+        requires s_bound { s < get_or self.words.now 0 0 }
+        requires c_lt_step_count { c < step_count }
+        ensures value { result ≡ to (graph_from self.entry.words.now) s c }
+        ensures state { IfSome result (λ u. u < get_or self.entry.words.now 0 0) }
+    {
+        or_none(NONE, word(self.words, s, c))
+    }
+
+    // The leaf that state s accepts.
+    #[inline]
+    pub fn accept(self, s: usize) -> Option<usize>
+        requires s_bound { s < get_or self.words.now 0 0 }
+        ensures value { result ≡ accept_of (graph_from self.entry.words.now) s }
+        ensures leaf { IfSome result (λ l. l < no_leaf) }
+    {
+        or_none(NO_LEAF, word(self.words, s, MARKS) % 256)
+    }
+
+    // The early leaf of state s.
+    #[inline]
+    pub fn early(self, s: usize) -> Option<usize>
+        requires s_bound { s < get_or self.words.now 0 0 }
+        ensures value { result ≡ early_of (graph_from self.entry.words.now) s }
+        ensures leaf { IfSome result (λ l. l < no_leaf) }
+    {
+        or_none(NO_LEAF, word(self.words, s, MARKS) / 256)
+    }
 }

@@ -4,6 +4,7 @@
 
 ghost use Rattle.std.specs.Prelude.{◌≡◌, ◌<◌, ◌≤◌, ◌-◌, length, get_or, replicate};
 ghost use Rattle.std.proofs.lemmas.List.Edits.{sets};
+ghost use Rattle.graph_rules.specs.Graph.{or_none};
 
 pub mod graph;
 pub mod table;
@@ -25,15 +26,19 @@ pub fn word(words: &[u16], i: usize) -> usize
     words[i] as usize
 }
 
+// A number, or none where it is the word for none.
+#[inline]
+pub fn or_none(word: usize, x: usize) -> Option<usize>
+    ensures { result ≡ or_none word x }
+{
+    if x == word { None } else { Some(x) }
+}
+
 // The words from a up to b become 0.
 pub fn zero(words: &mut [u16], a: usize, b: usize)
     requires a_le_b { a ≤ b }
     requires b_in_bounds { b ≤ length words.old }
     ensures { words.new ≡ sets words.old a (replicate (b - a) 0) }
 {
-    let mut i = a;
-    while i < b {
-        words[i] = 0;
-        i += 1;
-    }
+    words[a..b].fill(0);
 }

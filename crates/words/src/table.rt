@@ -13,6 +13,8 @@ pub const LEAVES: usize = 255;
 // The most match records.
 pub const MATCHES: usize = 4095;
 
+// The bounds below are of plain numbers, for the sums of a place: legal meets them once for all callers, and a struct of three counts would say no more.
+
 // The place of word c of leaf l: priority low half, high half, empty flag.
 pub fn leaf_place(l: usize, c: usize) -> usize
     requires l_bound { l < 65536 }
@@ -86,36 +88,4 @@ pub fn size(n: usize, m: usize, r: usize) -> usize
     ensures { result ≡ table_length n m r }
 {
     4 + 3 * m + ROW * n + 2 * r
-}
-
-// n, the number of states.
-pub fn states(table: &[u16]) -> usize
-    requires { 4 ≤ length table.now }
-    ensures { (result ≡ get_or table.now 0 0) × (result < 65536) }
-{
-    crate::word(table, 0)
-}
-
-// The start state, or NONE.
-pub fn start(table: &[u16]) -> usize
-    requires { 4 ≤ length table.now }
-    ensures { (result ≡ get_or table.now 1 0) × (result < 65536) }
-{
-    crate::word(table, 1)
-}
-
-// m, the number of leaves.
-pub fn leaves(table: &[u16]) -> usize
-    requires { 4 ≤ length table.now }
-    ensures { (result ≡ get_or table.now 2 0) × (result < 65536) }
-{
-    crate::word(table, 2)
-}
-
-// r, the number of match records.
-pub fn records(table: &[u16]) -> usize
-    requires { 4 ≤ length table.now }
-    ensures { (result ≡ get_or table.now 3 0) × (result < 65536) }
-{
-    crate::word(table, 3)
 }

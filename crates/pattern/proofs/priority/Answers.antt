@@ -1,20 +1,18 @@
 -- `pattern::priority` meets its contract: 10 by the check, and 11 is decided at the root. Assumes nothing.
-use Rattle.std.proofs.Common.{sym, ◌∙◌}
-use Rattle.pattern.proofs.Answers.{no-tree, root-held, valued, overrun}
+use Rattle.std.proofs.Common.{ap, ◌∙◌, ◌≡◌, Bor}
+use Rattle.trees.specs.declared.nodes.Tree.{Tree}
+use Rattle.pattern.specs.Priced.{priced}
+use Rattle.pattern.proofs.Answers.{refused-tree, no-tree, root-tree, priority-answer}
 use Rattle.pattern.proofs.priority.Goals as goal
 
-pub returns-then-not-fits : goal.returns-then-not-fits
-returns-then-not-fits c = no-tree _ _ (sym c.fits.ensures ∙ c.if-not-fits.true)
+pub returns-in_err-tree : goal.returns-in_err-tree
+returns-in_err-tree c =
+    refused-tree _ _ c.from_residual.ensures.0 c.from_residual.ensures.1 c.in_err-tree.ensures.0 ∙ no-tree _ _ c.in_err-tree.ensures.1
 
-pub record_value-requires : goal.record_value-requires
-record_value-requires c =
-    let held = root-held _ _ (sym c.fits.ensures ∙ c.if-not-fits.false) _ c.widths-table.ensures in
-    record { within = held.0; i_nonzero = held.1 }
-
-pub returns-in-Value : goal.returns-in-Value
-returns-in-Value c =
-    valued _ _ (sym c.fits.ensures ∙ c.if-not-fits.false) c.record_value.result c.record_value.ensures _ c.in-Value.is
-
-pub returns-in-Over : goal.returns-in-Over
-returns-in-Over c =
-    overrun _ _ (sym c.fits.ensures ∙ c.if-not-fits.false) c.record_value.result c.record_value.ensures c.in-Over.is
+pub returns : goal.returns
+returns c =
+    let et : c.root.result.tree.now ≡ c.in_ok-tree.tree = ap (λ (b : Bor Tree). b.now) c.root.ensures.0 in
+    c.ok_or.ensures.value
+    ∙ priority-answer _ _ c.in_ok-tree.ensures.2 _
+    (c.record_value.ensures
+    ∙ ap priced (root-tree c.in_ok-tree.tree _ _ c.in_ok-tree.ensures.0 c.in_ok-tree.ensures.1 c.root.result et c.root.ensures.1))

@@ -4,7 +4,7 @@ use Rattle.print.specs.Print.{printed}
 use Rattle.printer.proofs.Streams.{image_read, read_written}
 use Rattle.printer.proofs.run.Goals as goal
 
-pub returns-in-Bytes : goal.returns-in-Bytes
-returns-in-Bytes g c h =
+pub returns-in-Some : goal.returns-in-Some
+returns-in-Some g c h =
     let room : length c.read_all.new.buf ≡ 65537 = search rules in
-    read_written _ _ _ printed 65537 _ (image_read _ _ 65537 c.in-Bytes.n c.read_all.new.buf room (search rules) c.in-Bytes.ensures.bytes) (c.show.ensures h)
+    read_written _ _ _ printed 65537 _ (image_read _ _ 65537 c.in-Some.n c.read_all.new.buf room (search rules) c.in-Some.ensures.bytes) (c.show.ensures h)

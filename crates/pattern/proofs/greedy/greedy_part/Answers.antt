@@ -1,16 +1,16 @@
--- `pattern::greedy::greedy_part` meets its contract, by the kinds. Assumes nothing.
+-- `pattern::greedy::greedy_part`: a node's number has a note. Assumes nothing.
 use Rattle.std.proofs.Common.{arith}
-use Rattle.pattern.proofs.GreedyLaws.{part-repetition, part-inside, part_low, part-high}
+use Rattle.trees.proofs.NodeLaws.{number_few}
 use Rattle.pattern.proofs.greedy.greedy_part.Goals as goal
 
-pub returns-in-4 : goal.returns-in-4
-returns-in-4 c = part-repetition _ _ _ c.in-4.is _ _ c.is_set.ensures c.is_set-in-4.ensures
+pub offset_bounds-notes-part : goal.offset_bounds-notes-part
+offset_bounds-notes-part c = omega (arith, number_few c.in-Repetition.part)
 
-pub returns-in-5 : goal.returns-in-5
-returns-in-5 c = part-inside _ _ _ (omega arith) (omega arith)
+pub bounds-notes-part : goal.bounds-notes-part
+bounds-notes-part c = number_few c.in-Repetition.part
 
-pub returns-in_default : goal.returns-in_default
-returns-in_default c = part_low _ _ _ (omega arith)
+pub offset_bounds-notes-part-in-Capture : goal.offset_bounds-notes-part-in-Capture
+offset_bounds-notes-part-in-Capture c = omega (arith, number_few c.in-Capture.part)
 
-pub returns-in_default-2 : goal.returns-in_default-2
-returns-in_default-2 c = part-high _ _ _ (omega arith)
+pub bounds-notes-part-in-Capture : goal.bounds-notes-part-in-Capture
+bounds-notes-part-in-Capture c = number_few c.in-Capture.part

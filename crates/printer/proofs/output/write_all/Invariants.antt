@@ -1,10 +1,7 @@
--- The loop's invariant: no more is written than there is, and what is written is the text's front. The measure is the writes left.
+-- The loop's invariant: no more is written than there is, and what is written is the text's front.
 use Rattle.std.proofs.Common.{length, ◌≤◌, take}
 use Rattle.std.specs.Io.KnownBytes.{Appends}
 use Rattle.printer.proofs.output.write_all.Given as goal
 
-abbrev pub invariant-loop-writes : goal.invariant-loop-writes
-invariant-loop-writes g l = (l.done ≤ length l.text) × Appends (g.W.Write.contents l.fn.out) (g.W.Write.contents l.out) (take l.done l.text)
-
-abbrev pub decreases-loop-writes : goal.decreases-loop-writes
-decreases-loop-writes g l = l.writes
+abbrev pub invariant-loop : goal.invariant-loop
+invariant-loop g l = (l.done ≤ length l.text) × Appends (g.W.Write.contents l.fn.out) (g.W.Write.contents l.out) (take l.done l.text)

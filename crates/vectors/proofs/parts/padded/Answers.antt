@@ -1,16 +1,13 @@
--- Where the text stands in front, what stands behind it decides. Assumes nothing.
-use mathlib.Core.Path.{sym, ◌∙◌}
-use mathlib.Core.Bool.{false≢true}
-use borrow.Author.Tests.{lt-leb}
-use borrow.Author.Rules.{rules}
+-- `parts::padded` meets its contract: where the text stands in front, what stands behind it decides. Assumes nothing.
+use Rattle.std.proofs.Common.{sym, ◌∙◌}
+use Rattle.std.proofs.lemmas.Bool.Decides.{Decides-eqb}
+use Rattle.std.proofs.lemmas.Slice.Eq.{slice_eq-Decides}
 use Rattle.vectors.proofs.parts.padded.Goals as goal
-use Rattle.vectors.proofs.parts.padded.Goals.{then-n-a, else-n-a}
 
-pub returns-then-same : goal.returns-then-same
-returns-then-same c = (
-  (λ e. elim c.if-n-a.branch [
-    | then-n-a w ↦ record { room = w.if-n-a.true; same = search rules; rest = sym c.rest_is.ensures ∙ e }
-    | else-n-a w ↦ absurd (false≢true (sym (lt-leb _ _ w.if-n-a.false) ∙ (sym w.value-is ∙ c.if-same.true)))
-  ]),
-  (λ h. c.rest_is.ensures ∙ h.rest),
-)
+pub returns-then-starts_with : goal.returns-then-starts_with
+returns-then-starts_with c =
+    let there = c.if-starts_with.true in
+    let front = (slice_eq-Decides Decides-eqb _ _ _ c.starts_with.ensures.value).0 there in (
+      (λ e. record { room = c.starts_with.ensures.bound there; same = sym front; rest = sym c.rest_is.ensures ∙ e }),
+      (λ w. c.rest_is.ensures ∙ w.rest),
+    )

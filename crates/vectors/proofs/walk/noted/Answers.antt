@@ -1,30 +1,22 @@
--- `walk::noted` meets its contract; the byte of the kind is the same where its place is held back at the end. Assumes nothing.
-use Prim.Native.Nat.{◌+◌}
-use Rattle.vectors.specs.Walk.{noted}
-use Rattle.vectors.proofs.PastEnd.{byte-held}
+-- `walk::noted` meets its contract. Assumes nothing.
+use Rattle.std.proofs.Common.{◌≡◌, ◌<◌, ◌≤◌, cond, arith}
+use borrow.Author.Tests.{lt-ltb, le-ltb}
+use Rattle.vectors.specs.Reading.{byte_at}
+use Rattle.vectors.specs.Walk.{noted, leads}
 use Rattle.vectors.proofs.walk.noted.Goals as goal
+use Rattle.vectors.proofs.walk.noted.Goals.{then-leads, else-leads}
 
 pub returns-clause-value : goal.returns-clause-value
 unfolding noted
 returns-clause-value c =
-    rw (
-      c.chosen-2.ensures,
-      c.least.ensures,
-      c.more.ensures,
-      c.chosen.ensures,
-      c.after-2.ensures,
-      c.word.ensures.0,
-      c.counted-differ_now.ensures,
-      c.counted-alike_now.ensures,
-      c.count-kind.ensures.0,
-      c.after.ensures,
-      byte-held c.args.list.now (c.args.w.at + 4),
-      c.kind.ensures.0,
-      c.at.ensures,
-    )
-
-pub returns-clause-counts : goal.returns-clause-counts
-returns-clause-counts c = (
-  rw (c.counted-alike_now.ensures, c.count-kind.ensures.0, c.after.ensures, byte-held c.args.list.now (c.args.w.at + 4)),
-  rw (c.counted-differ_now.ensures, c.count-kind.ensures.0, c.after.ensures, byte-held c.args.list.now (c.args.w.at + 4)),
-)
+    let a = c.args in
+    let host : c.if-leads.result ≡ cond (leads a.list.now a.w) a.w.at a.w.host =
+    elim c.if-leads.branch [
+      | then-leads w ↦
+          let h : byte_at c.at.result.now 0 < a.w.leading = omega arith in
+          rw (lt-ltb _ _ (rw c.at.ensures at h)) w.result-is
+      | else-leads w ↦
+          let h : a.w.leading ≤ byte_at c.at.result.now 0 = omega arith in
+          rw (le-ltb _ _ (rw c.at.ensures at h)) w.result-is
+    ] in
+    rw (host, c.after.ensures, c.word.ensures.0, c.saturating_add.ensures, c.first_of.ensures, c.counted.ensures, c.from-kind.ensures, c.byte_on.ensures)

@@ -1,0 +1,13 @@
+-- From no state, or from state 0, nothing is read. Assumes nothing.
+use Rattle.std.proofs.Common.{◌∙◌}
+use Rattle.graph_rules.specs.Read.{read_table}
+use Rattle.readings.proofs.Starts.{edge-is}
+use Rattle.readings.proofs.read_table.read.Goals as goal
+
+pub returns-in_err-start : goal.returns-in_err-start
+unfolding read_table
+returns-in_err-start c = c.from_residual.ensures ∙ rw (← c.in_err-start.ensures.value)
+
+pub returns : goal.returns
+unfolding read_table
+returns c = c.walk.ensures ∙ rw (c.or_none-start.ensures, edge-is c.in_ok-start.field-0, ← c.in_ok-start.ensures.value)

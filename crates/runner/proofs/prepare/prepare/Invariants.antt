@@ -1,0 +1,7 @@
+-- The states below s are prepared.
+use Rattle.graph_rules.specs.Graph.{graph_from}
+use Rattle.runner.proofs.Preparing.{PreparedTo}
+use Rattle.runner.proofs.prepare.prepare.Given as goal
+
+abbrev pub invariant-loop-s : goal.invariant-loop-s
+invariant-loop-s l = PreparedTo (graph_from l.graph.words.now) l.s l.edges
