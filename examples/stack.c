@@ -7,7 +7,7 @@
  *
  * prints a line a call, its bytes and its name, as
  *
- *   281896 build
+ *   276856 build
  */
 #define _GNU_SOURCE
 #include <stdio.h>

@@ -4,6 +4,7 @@ ghost use Rattle.std.specs.Prelude.{◌≤◌};
 ghost use Rattle.texts.specs.Text.{Wrote};
 ghost use Rattle.angles.specs.Angles.{limit, hyphen, text_of};
 
+// (`below` is a sign, a value, as in `signs`.)
 fn hyphen(out: &mut [u8], below: bool) -> usize
     ensures { Wrote out.old 0 (hyphen below) out.new result }
 {

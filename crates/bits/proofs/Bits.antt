@@ -7,8 +7,8 @@ use native.Mathlib.Numerals.{add-one}
 use native.Mathlib.Omega.{arith}
 use lib.Pow.{pow_pos, pow_mono, high, low, shr-shr, shl_exact, field, mod-mod-pow}
 use lib.Bits.{bit_or, bit_and}
-use borrow.Author.Tests.{eqb-true, eqb-false, ltb-true}
-use lib.Dec.{eqb, ltb, lit<}
+use borrow.Author.Tests.{eqb-true, eqb-false}
+use lib.Dec.{eqb, lit<}
 use lib.ListN.{get_or}
 use Rattle.lists.specs.Lists.{tab, all_l}
 use Rattle.lists.proofs.Elements.{length-tab, get_or-tab, all-at}
@@ -121,10 +121,6 @@ or_is w k hw hk = eqb-true _ _ (byte-rule (λ w k. eqb (bit_or w (2 ^ k)) (with_
 
 pub and_is : (w k : ℕ) → w < 256 → k < 8 → bit_and w (255 - 2 ^ k) ≡ with_bit k w false
 and_is w k hw hk = eqb-true _ _ (byte-rule (λ w k. eqb (bit_and w (255 - 2 ^ k)) (with_bit k w false)) refl w k hw hk)
-
-pub byte-still : (w k : ℕ) (flag : Bool) → w < 256 → k < 8 → with_bit k w flag < 256
-byte-still w k true hw hk = ltb-true _ _ (byte-rule (λ w k. ltb (with_bit k w true) 256) refl w k hw hk)
-byte-still w k false hw hk = ltb-true _ _ (byte-rule (λ w k. ltb (with_bit k w false) 256) refl w k hw hk)
 
 -- `1 << k` at 8 bits, which the machine has as a product cut to 8 bits
 pub one_shl : (k : ℕ) → k < 8 → (1 * 2 ^ k) % 256 ≡ 2 ^ k

@@ -12,7 +12,7 @@ pub fn test_bit(word: u8, k: usize) -> bool
     (word >> k) & 1 == 1
 }
 
-// The word with bit k made 1 or 0, and no other bit changed.
+// The word with bit k made 1 or 0, and no other bit changed. (The flag is a value that is written, and chooses no step of a caller's.)
 pub fn with_bit(word: u8, k: usize, flag: bool) -> u8
     requires { k < 8 }
     ensures { result ≡ with_bit k word flag }

@@ -1,30 +1,21 @@
 -- A store in a caller's block: its calls are those on the block's store, or, where the block is none, on a store that counts 65, which 15 refuses; and
 -- tables that stand one after another. Assumes nothing.
-use Rattle.std.specs.Prelude.{Ok, Err}
+use Rattle.std.specs.Prelude.{Err}
 use mathlib.Core.Path.{◌≡◌, refl, ap, ◌∙◌}
-use mathlib.Core.Bool.{false, cond}
+use mathlib.Core.Bool.{true, false, cond}
+use mathlib.Core.Logic.{⊎_elim}
 use mathlib.Core.List.{List, [], ◌∷◌}
 use Prim.Native.Nat.{ℕ, suc, ◌/◌, ◌%◌, ◌<◌}
 use native.Mathlib.Omega.{arith}
-use borrow.Author.Tests.{eq-eqb, ne_eqb}
-use lib.ListN.{length, get_or, replicate}
-use Rattle.lists.proofs.Bools.{Is, yes-is, no-is, is}
-use Rattle.lists.proofs.Elements.{length-tab, get_or-tab0}
-use Rattle.refusals.specs.Refusals.{number}
-use Rattle.refusals.specs.declared.Refusal.{Refusal}
+use lib.ListN.{get_or, replicate}
+use Rattle.std.proofs.lemmas.Bool.{cases_Bool}
+use Rattle.lists.proofs.Elements.{get_or-tab0}
 use Rattle.refusals.specs.declared.Refusal.TheVariants.{Store}
 use Rattle.classes.specs.Classes.{Class}
 use Rattle.mask_store.specs.declared.MaskStore.{MaskStore}
-use Rattle.mask_store.specs.declared.Added.{Added}
 use Rattle.mask_store.specs.Layout.{table_count, table_size, store_size, most_masks, entry_place}
-use Rattle.mask_store.specs.Masks.{store_of, allowed, takes, refused_with, add, render}
-use Rattle.mask_store.proofs.Adding.{add-size}
-use Rattle.capi.specs.Lent.{is_flag, flags_of, put}
-use Rattle.capi.specs.Stores.{is_store, store_in, add_to, flat_at, flat, rendered, render_to}
-
-pub flags-length : (bytes : List ℕ) → length (flags_of bytes) ≡ 256
-unfolding flags_of
-flags-length bytes = length-tab 0 256 (is_flag bytes)
+use Rattle.mask_store.specs.Masks.{store_of, allowed, takes, add, render}
+use Rattle.capi.specs.Stores.{is_store, store_in, add_to, flat_at, flat, rendered}
 
 -- ---- the store that stands for a block that is none
 
@@ -39,71 +30,26 @@ none-renders : render none ≡ Err Store
 unfolding render allowed
 none-renders = refl
 
+-- by whether a block is a store
+pub by-store : {A : Type 0} (tables : List ℕ) → (is_store tables ≡ true → A) → (is_store tables ≡ false → A) → A
+by-store tables f g = ⊎_elim f g (cases_Bool (is_store tables))
+
+-- what `keep` leaves of a block and its count, where a call leaves this store
+abbrev pub kept : List ℕ → ℕ → MaskStore → MaskStore
+kept tables count s = record { tables = cond (is_store tables) s.tables tables; count = cond (is_store tables) s.count count }
+
 -- ---- `add_test_to_lut`
 
-module _ (tables : List ℕ) (count : ℕ) (class : Class) where
-  pub add-to : length tables ≡ store_size → add_to tables count class ≡ add (store_of tables count) class
-  unfolding add_to
-  add-to e = rw (eq-eqb (length tables) store_size e)
-
-  pub add-to-none : (length tables ≡ store_size → ⊥) → add_to tables count class ≡ refused_with (store_of tables count)
-  unfolding add_to
-  add-to-none n = rw (ne_eqb (length tables) store_size n)
-
-  -- by the store that stands for the block: the answer, the tables, the count
-  pub add-answer : (add (store_in tables count) class).answer ≡ (add_to tables count class).answer
-  unfolding add_to store_in add
-  add-answer = go (is (is_store tables))
-    where
-      go : Is (is_store tables) → (add (store_in tables count) class).answer ≡ (add_to tables count class).answer
-      go (yes-is q) = rw q
-      go (no-is q) = rw (q, none-takes (class ∷ []))
-
-  pub add-tables : cond (is_store tables) (add (store_in tables count) class).store.tables tables ≡ (add_to tables count class).store.tables
-  unfolding add_to store_in
-  add-tables = go (is (is_store tables))
-    where
-      go : Is (is_store tables) → cond (is_store tables) (add (store_in tables count) class).store.tables tables ≡ (add_to tables count class).store.tables
-      go (yes-is q) = rw q
-      go (no-is q) = rw q
-
-  pub add-count : cond (is_store tables) (add (store_in tables count) class).store.count count ≡ (add_to tables count class).store.count
-  unfolding add_to store_in
-  add-count = go (is (is_store tables))
-    where
-      go : Is (is_store tables) → cond (is_store tables) (add (store_in tables count) class).store.count count ≡ (add_to tables count class).store.count
-      go (yes-is q) = rw q
-      go (no-is q) = rw q
-
--- the tables of a store keep their length
-pub added-length : (tables : List ℕ) (count : ℕ) (bytes : List ℕ) → length tables ≡ store_size → length (add_to tables count (flags_of bytes)).store.tables ≡ store_size
-added-length tables count bytes e =
-    ap (λ (a : Added). length a.store.tables) (add-to tables count (flags_of bytes) e) ∙ add-size (store_of tables count) (flags_of bytes) e (flags-length bytes)
+pub add-held : (tables : List ℕ) (count : ℕ) (class : Class)
+    → record { answer = (add (store_in tables count) class).answer; store = kept tables count (add (store_in tables count) class).store } ≡ add_to tables count class
+unfolding add_to store_in add
+add-held tables count class = by-store tables (λ q. rw q) (λ q. rw (q, none-takes (class ∷ [])))
 
 -- ---- `render_luts`
 
-module _ (tables : List ℕ) (count : ℕ) where
-  pub render-held : render (store_in tables count) ≡ rendered tables count
-  unfolding store_in rendered
-  render-held = go (is (is_store tables))
-    where
-      go : Is (is_store tables) → render (store_in tables count) ≡ rendered tables count
-      go (yes-is q) = rw q
-      go (no-is q) = rw (q, none-renders)
-
-module _ (tables : List ℕ) (count : ℕ) (block : List ℕ) where
-  pub render-none : (length tables ≡ store_size → ⊥) → render_to tables count block ≡ record { refusal = 15; block = block }
-  unfolding rendered render_to
-  render-none n = rw (ne_eqb (length tables) store_size n)
-
-  module _ (e : length tables ≡ store_size) where
-    pub render-refused : (r : Refusal) → render (store_of tables count) ≡ Err r → render_to tables count block ≡ record { refusal = number r; block = block }
-    unfolding rendered render_to
-    render-refused r q = rw (eq-eqb (length tables) store_size e, q)
-
-    pub render-taken : (luts : List (List ℕ)) → render (store_of tables count) ≡ Ok luts → render_to tables count block ≡ put (flat luts) block
-    unfolding rendered render_to
-    render-taken luts q = rw (eq-eqb (length tables) store_size e, q)
+pub render-held : (tables : List ℕ) (count : ℕ) → render (store_in tables count) ≡ rendered tables count
+unfolding store_in rendered
+render-held tables count = by-store tables (λ q. rw q) (λ q. rw (q, none-renders))
 
 -- ---- tables one after another
 

@@ -1,4 +1,4 @@
-// The readings of a text.
+// The readings of a text. (Three calls alike: for C each is a function of its own.)
 ghost use Rattle.std.specs.Prelude.{◌≡◌, [], ◌∷◌};
 ghost use Rattle.readings.specs.Answers.{found_values, read_report, graph_read, table_read};
 ghost use Rattle.capi.specs.Plans.{run_in};

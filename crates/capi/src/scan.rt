@@ -11,7 +11,7 @@ use scans::scan::{Piece, Place, Scan};
 // The number of a scan that has ended (C holds a scan as one `size_t`).
 const ENDED: usize = usize::MAX;
 
-// The scan of a number.
+// The scan of a number, and below the number of a scan. (No `From`: both types are of other crates.)
 fn scan_of(number: usize) -> Scan
     ensures { result ≡ scan_of number }
 {

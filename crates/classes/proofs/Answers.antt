@@ -1,17 +1,17 @@
 -- The two structs read again: a class's ranges one after another, and its comparisons. Assumes nothing.
+use Rattle.std.specs.Prelude.{Bool, true, false, cond, eqb, ◌*◌, ◌-◌, replicate}
+use Rattle.std.specs.List.{fold, sum_by}
 use mathlib.Core.Path.{◌≡◌, refl, ap, ◌∙◌}
 use mathlib.Core.List.{List, [], ◌∷◌, ◌++◌, map, append_assoc}
 use Prim.Native.Nat.{ℕ, suc, ◌+◌, ◌≤◌, ◌<◌}
-use native.Mathlib.Numerals.{add-one}
 use native.Mathlib.Omega.{arith}
-use lib.ListN.{length, get_or, take, drop, length-map}
+use lib.ListN.{length, get_or, take, drop, length-map, length-append}
 use lib.Seq.{drop-cons, take-append_seam, drop-append_seam}
-use Rattle.classes.specs.Classes.{Class, has, Range, Comparison, comparisons, some_holds, ops_of, sum_ops}
+use Rattle.classes.specs.Classes.{Class, has, Range, Comparison, comparisons, some_holds, ops_of, count_ops, sum_ops}
 use Rattle.classes.specs.ClassAnswers.{row, no_range, no_entry, as_byte_class, exceptions, entry_of, as_comparisons, listed}
 use Rattle.classes.specs.declared.byte_class.ByteClass.{ByteClass}
 use Rattle.classes.specs.declared.byte_class.Comparison.{Comparison as Entry}
 use Rattle.classes.specs.declared.byte_class.Comparisons.{Comparisons}
-use Rattle.lists.proofs.Elements.{map_at}
 use Rattle.classes.proofs.Ranges.{comparisons-has}
 use Rattle.classes.proofs.Rows.{row_at, row-used}
 
@@ -35,29 +35,45 @@ module _ (rs : List Range) {held : ByteClass} (e : held ≡ as_byte_class rs) wh
 
 -- ---- comparisons
 
-pub laid-count : (ms : List Comparison) {laid : Comparisons} → laid ≡ as_comparisons ms → laid.count ≡ length ms
-unfolding as_comparisons
-laid-count ms e = rw e
-
 -- as far as they are counted, they are the comparisons' entries
 pub laid-all : (ms : List Comparison) {laid : Comparisons} → laid ≡ as_comparisons ms → take laid.count laid.list ≡ map entry_of ms
 unfolding as_comparisons
 laid-all ms e = rw (e, ← length-map ms entry_of) (row-used no_entry (map entry_of ms))
 
-module _ (ms : List Comparison) {es : List Entry} (all : es ≡ map entry_of ms) where
-  length-entries : length es ≡ length ms
-  length-entries = rw all (length-map ms entry_of)
+-- ---- their operations, added up
 
-  pub entries-long : {i : ℕ} → length es ≤ i → length ms ≤ i
-  entries-long h = omega (arith, length-entries)
+abbrev pub entry_ops : Entry → ℕ
+entry_ops e = ops_of e.first e.last e.holes
 
-  -- the cost of the next one, and of those after it
-  pub sum-next : (i : ℕ) → i < length es
-      → let e = get_or es i no_entry in sum_ops (drop i ms) ≡ ops_of e.first e.last e.holes + sum_ops (drop (i + 1) ms)
-  sum-next i h =
-      let none : Comparison = record { range = no_range; except = [] } in
-      let n : i < length ms = omega (arith, length-entries) in
-      rw (all, map_at entry_of ms i none no_entry n, add-one i, drop-cons ms i none n)
+ops-added : (ms : List Comparison) (k : ℕ) → fold (λ a e. a + entry_ops e) k (map entry_of ms) ≡ k + sum_ops ms
+ops-added [] k = omega arith
+ops-added (m ∷ ms) k = let h = ops-added ms (k + count_ops m) in omega arith
+
+pub ops-sum : (ms : List Comparison) → sum_by entry_ops (map entry_of ms) ≡ sum_ops ms
+ops-sum ms = let h = ops-added ms 0 in omega arith
+
+ends-few : (a b c : Bool) → cond a 1 (cond b 0 1 + cond c 0 1) ≤ 2
+ends-few true b c = omega arith
+ends-few false true true = omega arith
+ends-few false true false = omega arith
+ends-few false false true = omega arith
+ends-few false false false = omega arith
+
+ops-few : (ms : List Comparison) → sum_ops ms ≤ 2 * length ms + length (exceptions ms)
+ops-few [] = omega arith
+ops-few (m ∷ ms) =
+    let h = ops-few ms in
+    let e = ends-few (eqb m.range.first m.range.last) (eqb m.range.first 0) (eqb m.range.last 255) in
+    omega (arith, length-append m.except (exceptions ms))
+
+pub ops-room : (ms : List Comparison) {laid : Comparisons} → laid ≡ as_comparisons ms → laid.count ≤ 128 → length laid.except ≤ 128 → sum_ops ms ≤ 512
+unfolding as_comparisons row
+ops-room ms {laid} e few long =
+    let n : laid.count ≡ length ms = ap (λ (x : Comparisons). x.count) e in
+    let x : length laid.except ≡ length (exceptions ms ++ replicate (128 - length (exceptions ms)) 0) = ap (λ (x : Comparisons). length x.except) e in
+    omega (arith, ops-few ms, length-append (exceptions ms) (replicate (128 - length (exceptions ms)) 0))
+
+-- ---- read back
 
 pub listed-laid : (ms : List Comparison) (x : List ℕ) → listed (map entry_of ms) (exceptions ms ++ x) ≡ ms
 listed-laid [] x = refl

@@ -128,11 +128,10 @@ pub fn cost(class: &[bool; 256]) -> usize
     ensures { result ≡ cost class.now }
 {
     let cmp = impl_with_cmp(class);
-    let mut sum = 0;
-    for &comparison in &cmp.list[..cmp.count] {
-        sum += count_ops(comparison);
-    }
-    sum
+    cmp.list[..cmp.count]
+        .iter()
+        .map(|&comparison| count_ops(comparison))
+        .sum()
 }
 
 // Whether one comparison holds of the byte: it is inside the range and no exception.
@@ -142,7 +141,8 @@ pub fn holds(range: ByteRange, except: &[u8], byte: u8) -> bool
     range.first <= byte && byte <= range.last && !except.contains(&byte)
 }
 
-// Whether one of the listed comparisons holds of the byte. The slices are the arrays of `Comparisons`, as far as they are in use, or others.
+// Whether one of the listed comparisons holds of the byte. The slices are the arrays of `Comparisons`, as far as they are in use, or others. A `for`,
+// since the exceptions of the earlier comparisons are passed by on the way.
 pub fn some_holds(list: &[Comparison], except: &[u8], byte: u8) -> bool
     ensures { result ≡ some_holds (listed list.now except.now) byte }
 {

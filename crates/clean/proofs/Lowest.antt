@@ -1,10 +1,9 @@
--- The lowest state of a set that passes a test, as a loop finds it that goes up from state 0: those below s do not. Assumes nothing.
-use Rattle.std.specs.Prelude.{Some, None}
-use native.Mathlib.Numerals.{add-one}
-use mathlib.Core.Path.{◌≡◌, sym, ap, ◌∙◌}
+-- The lowest state of a set that passes a test: the first that is found from state 0 on. Assumes nothing.
+use Rattle.std.specs.Prelude.{Option, Some, None, MatchOption}
+use mathlib.Core.Path.{◌≡◌, refl, sym, ap, ◌∙◌}
 use mathlib.Core.Bool.{Bool, true, false, ◌&&◌}
 use mathlib.Core.List.{List, ◌++◌}
-use Prim.Native.Nat.{ℕ, ◌+◌, ◌<◌}
+use Prim.Native.Nat.{ℕ, zero, suc, ◌≤◌, ◌<◌, zero-le}
 use native.Mathlib.Omega.{arith}
 use lib.ListN.{length, get_or, replicate}
 use lib.Seq.{take_at}
@@ -16,21 +15,23 @@ use Rattle.graph_rules.specs.Clean.{first}
 use Rattle.clean.specs.Held.{lowest_in}
 
 module _ (w : List ℕ) (set : List Bool) (p : ℕ → Bool) where
+  abbrev passes : ℕ → Bool
+  passes s = get_or set s false && p s
+
   abbrev on : ℕ → List ℕ
   on = chosen_on (get_or w 0 0) set p
 
-  pub lowest-all : lowest_in w set p ≡ first (chosen_on (get_or w 0 0) set p 0)
-  lowest-all = sym (ap first (chosen-all (get_or w 0 0) set p))
+  passed : (s : ℕ) → s ≤ get_or w 0 0 → ((k : ℕ) → 0 ≤ k → k < s → passes k ≡ false) → on 0 ≡ on s
+  passed zero h f = refl
+  passed (suc s) h f = passed s (omega arith) (λ k a b. f k a (omega arith)) ∙ chosen-pass (get_or w 0 0) set p s h (f s zero-le (omega arith))
 
-  pub lowest-pass : (s : ℕ) → s < get_or w 0 0 → (get_or set s false && p s) ≡ false
-      → first (chosen_on (get_or w 0 0) set p s) ≡ first (chosen_on (get_or w 0 0) set p (s + 1))
-  lowest-pass s h q = ap first (chosen-pass (get_or w 0 0) set p s h q ∙ ap on (sym (add-one s)))
-
-  pub lowest-here : (s : ℕ) → s < get_or w 0 0 → (get_or set s false && p s) ≡ true → first (chosen_on (get_or w 0 0) set p s) ≡ Some s
-  lowest-here s h q = ap first (chosen_more (get_or w 0 0) set p s h q)
-
-  pub lowest-none : (s : ℕ) → s ≡ get_or w 0 0 → first (chosen_on (get_or w 0 0) set p s) ≡ None
-  lowest-none s e = ap first (ap on e ∙ chosen-end (get_or w 0 0) set p)
+  pub lowest-found : (n : ℕ) → n ≡ get_or w 0 0 → (r : Option ℕ)
+      → MatchOption r ((k : ℕ) → 0 ≤ k → k < n → passes k ≡ false) (λ s. (0 ≤ s) × (s < n) × (passes s ≡ true) × ((k : ℕ) → 0 ≤ k → k < s → passes k ≡ false))
+      → r ≡ lowest_in w set p
+  lowest-found n e None f =
+      sym (ap first (sym (chosen-all (get_or w 0 0) set p) ∙ passed (get_or w 0 0) (omega arith) (λ k a b. f k a (omega arith)) ∙ chosen-end (get_or w 0 0) set p))
+  lowest-found n e (Some s) (z, h, q, f) =
+      sym (ap first (sym (chosen-all (get_or w 0 0) set p) ∙ passed s (omega arith) f ∙ chosen_more (get_or w 0 0) set p s (omega arith) q))
 
 -- flags past the states mean nothing
 pub lowest-padded : (w : List ℕ) (set : List Bool) (k : ℕ) (p : ℕ → Bool) → length set ≡ get_or w 0 0

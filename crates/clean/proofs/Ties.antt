@@ -1,8 +1,9 @@
 -- A state is tied just if its chain is not empty and it has no leaf: the highest priority of a chain is that of one of its leaves, so one leaf at least
 -- contends. A chain is empty just if its head is 0. Assumes nothing.
-use Rattle.std.specs.Prelude.{Some, None}
+use Rattle.std.specs.Prelude.{Option, Some, None, unwrap_or}
+use Rattle.std.specs.Option.{is_some, is_none}
 use mathlib.Core.Path.{◌≡◌, refl, sym, ap, ◌∙◌}
-use mathlib.Core.Bool.{Bool, true, false, not, false≢true}
+use mathlib.Core.Bool.{Bool, true, false, false≢true}
 use mathlib.Core.List.{List, [], ◌∷◌, map}
 use mathlib.Core.Logic.{⊎_elim}
 use Prim.Native.Nat.{ℕ, zero, suc, ◌<◌}
@@ -15,6 +16,10 @@ use Rattle.lists.proofs.Bools.{Is, is, yes-is, no-is, none-some, or_left, or_rig
 use Rattle.graph_rules.specs.Table.{Table, row_of, leaf_at, match_of}
 use Rattle.graph_rules.specs.Build.{chain_from, chain, highest, contenders, single, leaf_of}
 use Rattle.graph_rules.specs.Clean.{tied}
+use Rattle.graph_rules.specs.Graph.{or_none}
+use Rattle.graph_rules.proofs.Nones.{or_word, or_some}
+use Rattle.legal.specs.declared.Record.{Record}
+use Rattle.legal.specs.Records.{number_of}
 
 -- ---- the highest of a list's values is that of one of its elements
 
@@ -68,6 +73,17 @@ module _ (t : Table) (s : ℕ) where
       go (yes-is q) = eqb-true (row_of t s).head 0 q
       go (no-is q) = let (l, ls, e') = chain-some (eqb-false (row_of t s).head 0 q) in let n = ap length e' in absurd (omega arith)
 
+  -- its first record, if there is one, has a number that is not 0
+  headless : None ≡ or_none 0 (row_of t s).head → (row_of t s).head ≡ 0
+  headless e = sym (or_word 0 (row_of t s).head) ∙ ap (λ (o : Option ℕ). unwrap_or o 0) (sym e)
+
+  headed : (i : ℕ) → Some i ≡ or_none 0 (row_of t s).head → (row_of t s).head ≡ 0 → ⊥
+  headed i e = (or_some 0 (row_of t s).head i (sym e)).1
+
+  pub chain-is : (o : Option Record) → number_of o ≡ or_none 0 (row_of t s).head → is_none o ≡ eqb (length (chain t s)) 0
+  chain-is None e = ap (λ (l : List ℕ). eqb (length l) 0) (sym (chain-none (headless e)))
+  chain-is (Some r) e = sym (ne_eqb (length (chain t s)) 0 (λ z. headed r.number e (chain_head z)))
+
   contenders-none : (row_of t s).head ≡ 0 → length (contenders t s) ≡ 0
   unfolding contenders
   contenders-none e = rw (chain-none e)
@@ -79,19 +95,15 @@ module _ (t : Table) (s : ℕ) where
       let h = highest (map (λ l. (leaf_at t l).priority) (l ∷ ls)) in
       rw e (some-those (λ l. eqb (leaf_at t l).priority h) (l ∷ ls) (highest-one (λ l. (leaf_at t l).priority) l ls h refl))
 
-  -- ---- a tie, by the state's leaf and the head of its chain
+  -- ---- a tie, by the state's leaf and the first record of its chain
 
-  pub tied-leaf : (l : ℕ) → leaf_of t s ≡ Some l → tied t s ≡ false
+  pub tied-leaf : (o : Option ℕ) → o ≡ leaf_of t s → is_some o ≡ true → tied t s ≡ false
   unfolding tied leaf_of
-  tied-leaf l e = single-few (contenders t s) l e
+  tied-leaf None e q = absurd (false≢true q)
+  tied-leaf (Some l) e q = single-few (contenders t s) l (sym e)
 
-  -- with no leaf, by the head
-  pub tied-head : leaf_of t s ≡ None → (h : ℕ) → h ≡ (row_of t s).head → not (eqb h 0) ≡ tied t s
+  pub tied-head : (o : Option ℕ) → o ≡ leaf_of t s → is_some o ≡ false → (r : Option Record) → number_of r ≡ or_none 0 (row_of t s).head → is_some r ≡ tied t s
   unfolding tied leaf_of
-  tied-head e h q = go (is (eqb h 0))
-    where
-      go : Is (eqb h 0) → not (eqb h 0) ≡ tied t s
-      go (yes-is z) =
-          let n = contenders-none (sym q ∙ eqb-true h 0 z) in
-          rw z (sym (lt-leb 2 (length (contenders t s)) (omega arith)))
-      go (no-is z) = rw z (sym (no-single (contenders t s) e (contenders-some (λ y. eqb-false h 0 z (q ∙ y)))))
+  tied-head (Some l) e q r at = absurd (false≢true (sym q))
+  tied-head None e q None at = let n = contenders-none (headless at) in sym (lt-leb 2 (length (contenders t s)) (omega arith))
+  tied-head None e q (Some r) at = sym (no-single (contenders t s) (sym e) (contenders-some (headed r.number at)))

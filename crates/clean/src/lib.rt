@@ -8,22 +8,20 @@ ghost use Rattle.graph_rules.specs.Table.{table_of};
 ghost use Rattle.graph_rules.specs.Build.{empty_leaves};
 ghost use Rattle.graph_rules.specs.Clean.{breach, tied, zero_dead, bytes_leaf, endless};
 ghost use Rattle.clean.specs.Answers.{clean_of};
-ghost use Rattle.clean.specs.Held.{LeavesOf, broken, lowest_in};
+ghost use Rattle.clean.specs.Held.{LeavesOf, lowest_in};
 
 use graph_rules::Breach;
 use legal::Table;
 use refusals::Refusal;
-use words::graph::NO_LEAF;
-use words::table::{ROW, row_word};
-use words::{END, NONE, STATES, or_none};
+use words::{END, NONE, STATES, STEPS};
 
-// Each state's leaf; NO_LEAF if it has none. (As words: options of numbers would take twice the stack, which include/balthwyr.h states.)
-fn leaves_of(table: Table<'_>) -> [usize; STATES]
+// Each state's leaf; none if it has none.
+fn leaves_of(table: Table<'_>) -> [Option<u8>; STATES]
     ensures { LeavesOf table.entry.words.now result }
 {
-    let mut out = [NO_LEAF; STATES];
+    let mut out: [Option<u8>; STATES] = [None; STATES];
     for s in 0..table.states() {
-        out[s] = leaves::leaf_of(table, s).unwrap_or(NO_LEAF);
+        out[s] = leaves::leaf_of(table, s).map(|l| l as u8);
     }
     out
 }
@@ -32,20 +30,14 @@ fn leaves_of(table: Table<'_>) -> [usize; STATES]
 fn zero_dead(table: Table<'_>) -> bool
     ensures { result ≡ zero_dead (table_of table.entry.words.now) }
 {
-    let m = table.leaves();
-    for c in 0..ROW {
-        if row_word(table.words, m, 0, c) != 0 {
-            return false;
-        }
-    }
-    true
+    (0..STEPS).all(|c| table.step(0, c) == 0) && table.head(0).is_none()
 }
 
 // A table with each state's leaf. (By reference: the leaves stand once on the stack.)
 #[derive(Clone, Copy)]
 struct Leaved<'a> {
     table: Table<'a>,
-    leaf: &'a [usize; STATES],
+    leaf: &'a [Option<u8>; STATES],
     ghost leaves: { LeavesOf table.words.now leaf.now },
 }
 
@@ -55,24 +47,19 @@ impl<'a> Leaved<'a> {
         requires { s < get_or self.table.words.now 0 0 }
         ensures { result ≡ tied (table_of self.entry.table.words.now) s }
     {
-        if self.leaf[s] != NO_LEAF {
-            return false;
-        }
-        self.table.head(s).is_some()
+        self.leaf[s].is_none() && self.table.head(s).is_some()
     }
 
     // The leaf of all states that the bytes lead to from state s; none if one has none or two differ.
-    fn bytes_leaf(self, s: usize) -> Option<usize>
+    fn bytes_leaf(self, s: usize) -> Option<u8>
         requires { s < get_or self.table.words.now 0 0 }
         ensures { result ≡ bytes_leaf (table_of self.entry.table.words.now) s }
     {
         let first = self.leaf[self.table.step(s, 0)];
-        for b in 1..END {
-            if self.leaf[self.table.step(s, b)] != first {
-                return None;
-            }
+        if !(1..END).all(|b| self.leaf[self.table.step(s, b)] == first) {
+            return None;
         }
-        or_none(NO_LEAF, first)
+        first
     }
 
     // Whether the bytes of state s all lead to one leaf, and no end step to a state other than 0.
@@ -86,28 +73,18 @@ impl<'a> Leaved<'a> {
         self.bytes_leaf(s).is_some()
     }
 
-    // Whether state s breaks rule 3, if `end`, or else rule 1: it is endless, or tied. (By a flag: with a closure for the rule, the calls in `judged` are
-    // not proved yet.)
-    fn breaks(self, s: usize, end: bool) -> bool
-        requires { s < get_or self.table.words.now 0 0 }
-        ensures { result ≡ broken end (table_of self.entry.table.words.now) s }
+    // The lowest state of a set where several leaves tie.
+    fn lowest_tied(self, set: &[bool; STATES]) -> Option<usize>
+        ensures { result ≡ lowest_in self.entry.table.words.now set.now (tied (table_of self.entry.table.words.now)) }
     {
-        if end {
-            return self.endless(s);
-        }
-        self.tied(s)
+        (0..self.table.states()).find(|s| set[*s] && self.tied(*s))
     }
 
-    // The lowest state of a set that breaks that rule.
-    fn lowest_broken(self, set: &[bool; STATES], end: bool) -> Option<usize>
-        ensures { result ≡ lowest_in self.entry.table.words.now set.now (broken end (table_of self.entry.table.words.now)) }
+    // The lowest state of a set that is endless.
+    fn lowest_endless(self, set: &[bool; STATES]) -> Option<usize>
+        ensures { result ≡ lowest_in self.entry.table.words.now set.now (endless (table_of self.entry.table.words.now)) }
     {
-        for s in 0..self.table.states() {
-            if set[s] && self.breaks(s, end) {
-                return Some(s);
-            }
-        }
-        None
+        (0..self.table.states()).find(|s| set[*s] && self.endless(*s))
     }
 }
 
@@ -120,7 +97,7 @@ fn judged(table: Table<'_>, start: usize) -> Option<Breach>
     let set = reach::reached(table, start);
     let leaf = leaves_of(table);
     let leaved = Leaved { table, leaf: &leaf };
-    if let Some(tie) = leaved.lowest_broken(&set, false) {
+    if let Some(tie) = leaved.lowest_tied(&set) {
         return Some(Breach {
             rule: 1,
             state: tie,
@@ -129,7 +106,7 @@ fn judged(table: Table<'_>, start: usize) -> Option<Breach>
     if !zero_dead(table) {
         return Some(Breach { rule: 2, state: 0 });
     }
-    let end = leaved.lowest_broken(&set, true)?;
+    let end = leaved.lowest_endless(&set)?;
     Some(Breach {
         rule: 3,
         state: end,
@@ -141,17 +118,11 @@ pub fn clean(table: &[u16]) -> Result<Option<Breach>, Refusal>
     ensures { result ≡ clean_of table.now }
 {
     let table = Table::new(table)?;
-    let Some(s) = table.start() else {
-        return Ok(Some(Breach {
+    match table.start() {
+        Some(s) if conflicts::count_empty(table) == 0 => Ok(judged(table, s)),
+        _ => Ok(Some(Breach {
             rule: 1,
             state: NONE,
-        }));
-    };
-    if conflicts::count_empty(table) != 0 {
-        return Ok(Some(Breach {
-            rule: 1,
-            state: NONE,
-        }));
+        })),
     }
-    Ok(judged(table, s))
 }

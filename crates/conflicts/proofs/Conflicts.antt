@@ -18,8 +18,10 @@ use Rattle.lists.proofs.Those.{those-map}
 use Rattle.graph_rules.specs.Table.{Table, table_of, refusal}
 use Rattle.graph_rules.specs.Build.{contenders, Error, disambiguation, error_words, ties}
 use Rattle.graph_rules.proofs.Counts.{size_is}
+use Rattle.legal.specs.declared.Table as legal
+use Rattle.legal.specs.declared.Record.{Record}
 use Rattle.leaves.specs.Chains.{top_of, next_tied, tie_from, tie_at}
-use Rattle.conflicts.specs.Slots.{tied_at}
+use Rattle.conflicts.specs.Slots.{tie_of, tied_at}
 use Rattle.leaves.proofs.Contenders.{contenders-top, tie-step, next-tied-low, top-low}
 use Rattle.graph_rules.specs.Layout.{most_leaves}
 
@@ -147,7 +149,10 @@ module _ (w : List ℕ) (set : List Bool) where
 
 -- ---- one state down, as a loop goes: its state is passed, or begins the list
 
-module _ (w : List ℕ) (legal : refusal w ≡ 0) (set : List Bool) (s : ℕ) (some : 0 < s) (inside : s ≤ get_or w 0 0) where
+module _ (table : legal.Table) (set : List Bool) (s : ℕ) (some : 0 < s) (inside : s ≤ get_or table.words.now 0 0) where
+  abbrev w : List ℕ
+  w = table.words.now
+
   abbrev down : List (List ℕ)
   down = ties_on (table_of w) (get_or w 0 0) set (s - 1)
 
@@ -158,11 +163,12 @@ module _ (w : List ℕ) (legal : refusal w ≡ 0) (set : List Bool) (s : ℕ) (s
   back = let e : suc (s - 1) ≡ s = omega arith in ap (ties_on (table_of w) (get_or w 0 0) set) e
 
   pub down-free : tied_at (table_of w) set (s - 1) ≡ None → down ≡ here
-  down-free e = ties-pass (table_of w) (get_or w 0 0) set (s - 1) (omega arith) (tied-no w legal set (s - 1) e) ∙ back
+  down-free e = ties-pass (table_of w) (get_or w 0 0) set (s - 1) (omega arith) (tied-no w table.legal set (s - 1) e) ∙ back
 
-  pub down-tied : (i : ℕ) → tied_at (table_of w) set (s - 1) ≡ Some i → down ≡ tie_from (table_of w) i ∷ here
-  down-tied i e =
-      let (q, r) = tied-yes w legal set (s - 1) i e in
+  pub down-tied : (r : Record) → r.table ≡ table → tied_at (table_of w) set (s - 1) ≡ Some r.number → down ≡ tie_of r ∷ here
+  down-tied r of e =
+      let (q, k) = tied-yes w table.legal set (s - 1) r.number e in
+      let c : contenders (table_of w) (s - 1) ≡ tie_of r = k ∙ ap (λ (u : legal.Table). tie_from (table_of u.words.now) r.number) (sym of) in
       ties-more (table_of w) (get_or w 0 0) set (s - 1) (omega arith) q ∙ (let b = back in cc)
 
 -- ---- counted from the last state down to s

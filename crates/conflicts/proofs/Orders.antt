@@ -1,5 +1,5 @@
 -- The ties of a set put in order from the last state down: the records that are held so far begin the sorted ties of the states passed. Assumes nothing.
-use mathlib.Core.Path.{◌≡◌, sym, ap, subst₂, ◌∙◌}
+use mathlib.Core.Path.{◌≡◌, sym, ap, subst, subst₂, ◌∙◌}
 use mathlib.Core.Bool.{Bool, true}
 use mathlib.Core.List.{List, [], ◌∷◌, map}
 use Prim.Native.Nat.{ℕ, ◌+◌, ◌-◌, ◌≤◌, ◌<◌}
@@ -12,8 +12,9 @@ use Rattle.lists.proofs.Elements.{map_at}
 use Rattle.lists.proofs.Sorted.{Ordered, sorted-ordered, ordered_at}
 use Rattle.graph_rules.specs.Table.{table_of, refusal}
 use Rattle.graph_rules.specs.Build.{disambiguation, ties}
+use Rattle.legal.specs.declared.Record.{Record}
 use Rattle.leaves.specs.Chains.{tie_from}
-use Rattle.conflicts.specs.Slots.{slot, put_in, Held, InOrder}
+use Rattle.conflicts.specs.Slots.{tie_of, slot, put_in, Held, InOrder}
 use Rattle.conflicts.proofs.Conflicts.{ties_on, ties-end, ties-sorted}
 use Rattle.legal.proofs.Legal.{legal-sized}
 use Rattle.conflicts.proofs.Slotted.{put-length, put-insert, put-held}
@@ -90,10 +91,15 @@ module _ (w : List ℕ) (legal : refusal w ≡ 0) (set : List Bool) (s : ℕ) (o
         let f = c.few in
         record { inside = omega arith; few = omega arith; long = c.long; held = c.held; ties = c.ties ∙ ap sorted (sym e) }
 
-    pub sorting-more : (i p : ℕ) → 0 < i → i ≤ get_or w 3 0 → p ≡ slot (tie i) (map tie (take count order)) → p ≤ length (take count order)
-        → ties_on (table_of w) (get_or w 0 0) set (s - 1) ≡ tie i ∷ ties_on (table_of w) (get_or w 0 0) set s
-        → Sorting w set (s - 1) (put_in order count p i) (count + 1)
-    sorting-more i p a b q inside e =
+    pub sorting-more : (r : Record) → r.table.words.now ≡ w → (p : ℕ) → p ≡ slot (tie_of r) (map (tie_from (table_of r.table.words.now)) (take count order))
+        → p ≤ length (take count order) → ties_on (table_of w) (get_or w 0 0) set (s - 1) ≡ tie_of r ∷ ties_on (table_of w) (get_or w 0 0) set s
+        → Sorting w set (s - 1) (put_in order count p r.number) (count + 1)
+    sorting-more r of p q inside e =
+        let i = r.number in
+        let a = r.some in
+        let b : i ≤ get_or w 3 0 = subst (λ (v : List ℕ). i ≤ get_or v 3 0) of r.there in
+        let same : tie_of r ≡ tie i = ap (λ (v : List ℕ). tie_from (table_of v) i) of in
+        let slotted = q ∙ ap (λ (v : List ℕ). slot (tie_from (table_of v) i) (map (tie_from (table_of v)) (take count order))) of in
         let in_place : p ≤ count = let h = held-length in omega arith in
         let l = c.long in
         let f = c.few in
@@ -105,8 +111,9 @@ module _ (w : List ℕ) (legal : refusal w ≡ 0) (set : List Bool) (s : ℕ) (o
           long = put-length order count p i in_place (omega arith) ∙ l;
           held = put-held order count p i in_place (omega arith) (get_or w 3 0) c.held a b (omega arith);
           ties =
-              put-insert order count p i in_place (omega arith) tie q
+              put-insert order count p i in_place (omega arith) tie slotted
               ∙ ap (insert (tie i)) c.ties
+              ∙ ap (λ (l : List ℕ). insert l (sorted (ties_on (table_of w) (get_or w 0 0) set s))) (sym same)
               ∙ ap sorted (sym e);
         }
 

@@ -1,48 +1,65 @@
 -- Ties put in order: two ties compared leaf by leaf, the place of one among those in order, and the records with it put in there. Assumes nothing.
+use Rattle.std.specs.Prelude.{Option, Some, None, IfSome}
 use mathlib.Core.Path.{◌≡◌, refl, sym, ap, ap₂, subst, ◌∙◌}
 use mathlib.Core.Bool.{true, false}
 use mathlib.Core.List.{List, [], ◌∷◌, ◌++◌, map, map-append, append_assoc}
 use Prim.Native.Nat.{ℕ, zero, suc, ◌+◌, ◌-◌, ◌≤◌, ◌<◌, zero-le, suc-le-suc}
-use native.Mathlib.Nat.{not-suc-le-zero, le_of_suc-le-suc}
+use native.Mathlib.Nat.{le_of_suc-le-suc}
 use native.Mathlib.Omega.{arith}
 use borrow.Author.Tests.{ne_eqb}
 use lib.Dec.{ltb}
-use lib.ListN.{length, get_or, take, drop, set, length-append, length-take, length-drop, length-map, take-append-drop, get_or-append}
-use lib.Seq.{length-take-le, take-suc, drop-cons, append_snoc, set_at, get_or-take, get_or-drop, get_or_at, get_or-append-add, take-add, take_at, drop_at}
+use lib.ListN.{length, get_or, take, drop, set, length-append, length-take, length-drop, length-map, get_or-append}
+use lib.Seq.{length-take-le, take-suc, append_snoc, set_at, get_or-take, get_or-drop, get_or_at, get_or-append-add, take-add, take_at, drop_at}
 use Rattle.lists.specs.Lists.{before, insert}
 use Rattle.lists.proofs.Bools.{or-false, Is, is, yes-is, no-is, Order, order, less, equal, more}
 use Rattle.lists.proofs.Elements.{map_at}
 use Rattle.lists.proofs.Sorted.{before-equal, before-not}
-use Rattle.graph_rules.specs.Table.{table_of, match_of, refusal}
+use Rattle.graph_rules.specs.Table.{table_of, match_of}
+use Rattle.legal.specs.declared.Table as legal
+use Rattle.legal.specs.declared.Record.{Record}
+use Rattle.legal.specs.Records.{number_of}
 use Rattle.leaves.specs.Chains.{next_tied, tie_from, tie_at}
-use Rattle.conflicts.specs.Slots.{slot, put_in, Held}
+use Rattle.conflicts.specs.Slots.{tie_of, slot, put_in, Held}
 use Rattle.leaves.proofs.Contenders.{tie-step}
 use Rattle.graph_rules.specs.Layout.{most_states}
 
--- ---- two ties, by their records
+-- ---- ties, walked record by record
 
-module _ (w : List ℕ) (legal : refusal w ≡ 0) (i : ℕ) (some-i : 0 < i) (held-i : i ≤ get_or w 3 0) where
-  abbrev tie : ℕ → List ℕ
-  tie i = tie_from (table_of w) i
+-- the tie from a record on, if there is one
+abbrev pub tie_on : Option Record → List ℕ
+tie_on None = []
+tie_on (Some r) = tie_of r
 
-  abbrev leaf : ℕ → ℕ
-  leaf i = (match_of (table_of w) i).leaf
+-- o is the next of the tie
+abbrev pub NextTied : Record → Option Record → Type 0
+NextTied r o = (number_of o ≡ next_tied (table_of r.table.words.now) r.number) × IfSome o (λ n. n.table ≡ r.table)
 
-  abbrev rest : ℕ → List ℕ
-  rest i = tie_at (table_of w) (next_tied (table_of w) i)
+tie-same : (table : legal.Table) (o : Option Record) → IfSome o (λ r. r.table ≡ table) → tie_at (table_of table.words.now) (number_of o) ≡ tie_on o
+tie-same table None of = refl
+tie-same table (Some r) of = ap (λ (u : legal.Table). tie_from (table_of u.words.now) r.number) (sym of)
 
-  pub before-none : before (tie i) [] ≡ false
-  before-none = ap (λ (l : List ℕ). before l []) (tie-step w legal i some-i held-i)
+module _ (r : Record) where
+  abbrev leaf : ℕ
+  leaf = (match_of (table_of r.table.words.now) r.number).leaf
 
-  module _ (j : ℕ) (some-j : 0 < j) (held-j : j ≤ get_or w 3 0) where
-    both : before (tie i) (tie j) ≡ before (leaf i ∷ rest i) (leaf j ∷ rest j)
-    both = ap₂ before (tie-step w legal i some-i held-i) (tie-step w legal j some-j held-j)
+  abbrev rest : List ℕ
+  rest = tie_at (table_of r.table.words.now) (next_tied (table_of r.table.words.now) r.number)
 
-    pub unlike-before : (leaf i ≡ leaf j → ⊥) → before (tie i) (tie j) ≡ ltb (leaf i) (leaf j)
-    unlike-before n = both ∙ rw (ne_eqb (leaf i) (leaf j) n) (or-false (ltb (leaf i) (leaf j)))
+  pub tie-begins : tie_of r ≡ leaf ∷ rest
+  tie-begins = tie-step r.table.words.now r.table.legal r.number r.some r.there
 
-    pub equal-before : leaf i ≡ leaf j → before (tie i) (tie j) ≡ before (rest i) (rest j)
-    equal-before e = both ∙ before-equal (leaf i) (leaf j) (rest i) (rest j) e
+  pub tie-next : (o : Option Record) → NextTied r o → tie_of r ≡ leaf ∷ tie_on o
+  tie-next o n = tie-begins ∙ ap {B = List ℕ} (λ l. leaf ∷ l) (ap (tie_at (table_of r.table.words.now)) (sym n.0) ∙ tie-same r.table o n.1)
+
+  pub before-none : before (tie_of r) [] ≡ false
+  before-none = ap (λ (l : List ℕ). before l []) tie-begins
+
+module _ (i j : Record) where
+  pub unlike-before : (leaf i ≡ leaf j → ⊥) → before (tie_of i) (tie_of j) ≡ ltb (leaf i) (leaf j)
+  unlike-before n = ap₂ before (tie-begins i) (tie-begins j) ∙ rw (ne_eqb (leaf i) (leaf j) n) (or-false (ltb (leaf i) (leaf j)))
+
+  pub equal-before : leaf i ≡ leaf j → (o p : Option Record) → NextTied i o → NextTied j p → before (tie_of i) (tie_of j) ≡ before (tie_on o) (tie_on p)
+  equal-before e o p n m = ap₂ before (tie-next i o n) (tie-next j p m) ∙ before-equal (leaf i) (leaf j) (tie_on o) (tie_on p) e
 
 -- ---- the place of a list among those in order
 
@@ -72,9 +89,6 @@ pub record Between (f : ℕ → List ℕ) (l : List ℕ) (k : ℕ) (a : List ℕ
   pub comes : high < k → before a (f (get_or l high 0)) ≡ true
 
 module _ (f : ℕ → List ℕ) (l : List ℕ) (k : ℕ) (a : List ℕ) where
-  pub between-all : Between f l k a 0 k
-  between-all = record { inside = zero-le; end = omega arith; passed = λ j h. absurd (not-suc-le-zero h); comes = λ h. absurd (omega arith) }
-
   module _ (low high m : ℕ) (b : Between f l k a low high) (left : low ≤ m) (right : m < high) where
     pub between-low : before a (f (get_or l m 0)) ≡ true → Between f l k a low m
     between-low q = let e = b.end in record { inside = left; end = omega arith; passed = b.passed; comes = λ h. q }
@@ -104,51 +118,20 @@ between-slot f l a p q h b =
 
 -- ---- a record put in at that place
 
+-- ---- a record put in at that place
+
 -- the elements from j up to k one place on, place j still as it was
 unfoldable pub shifted : List ℕ → ℕ → ℕ → List ℕ
 shifted l k j = take (suc j) l ++ (take (k - j) (drop j l) ++ drop (suc k) l)
 
-module _ (l : List ℕ) (k : ℕ) (room : k < length l) where
-  pub shifted_none : shifted l k k ≡ l
-  unfolding shifted
-  shifted_none = let e : k - k ≡ 0 = omega arith in rw e (take-append-drop (suc k) l)
-
-  abbrev moved : ℕ → List ℕ
-  moved j = take (k - j) (drop j l) ++ drop (suc k) l
-
-  -- place j written
-  shifted-set : (j v : ℕ) → j ≤ k → set (shifted l k j) j v ≡ take j l ++ (v ∷ moved j)
-  unfolding shifted
-  shifted-set j v h =
-      ap (λ (a : List ℕ). set (a ++ moved j) j v) (take-suc l j 0 (omega arith))
-      ∙ ap (λ (a : List ℕ). set a j v) (append_snoc (take j l) (get_or l j 0) (moved j))
-      ∙ set_at (take j l) (get_or l j 0) (moved j) v j (length-take-le j l (omega arith))
-
-  -- the last one: the new element
-  pub shifted-last : (p v : ℕ) → p ≤ k → set (shifted l k p) p v ≡ put_in l k p v
-  unfolding put_in
-  shifted-last p v h = shifted-set p v h
-
-  shifted_at : (j : ℕ) → 0 < j → j ≤ k → get_or (shifted l k j) (j - 1) 0 ≡ get_or l (j - 1) 0
-  unfolding shifted
-  shifted_at j a h =
-      let e = length-take-le (suc j) l (omega arith) in
-      get_or-append (take (suc j) l) (moved j) 0 (j - 1) (omega arith) ∙ get_or-take (suc j) l (j - 1) 0 (omega arith)
-
-  moved_more : (j : ℕ) → 0 < j → j ≤ k → moved (j - 1) ≡ get_or l (j - 1) 0 ∷ moved j
-  moved_more j a h =
-      let e : k - (j - 1) ≡ suc (k - j) = omega arith in
-      let f : suc (j - 1) ≡ j = omega arith in
-      rw (drop-cons l (j - 1) 0 (omega arith), e, f)
-
-  -- one place further down
-  pub shifted-more : (j : ℕ) → 0 < j → j ≤ k → set (shifted l k j) j (get_or (shifted l k j) (j - 1) 0) ≡ shifted l k (j - 1)
-  unfolding shifted
-  shifted-more j a h =
-      let f : suc (j - 1) ≡ j = omega arith in
-      ap (set (shifted l k j) j) (shifted_at j a h)
-      ∙ shifted-set j (get_or l (j - 1) 0) h
-      ∙ ap₂ (λ (n : ℕ) (r : List ℕ). take n l ++ r) (sym f) (sym (moved_more j a h))
+-- with the new element there
+pub shifted-last : (l : List ℕ) (k : ℕ) → k < length l → (p v : ℕ) → p ≤ k → set (shifted l k p) p v ≡ put_in l k p v
+unfolding shifted put_in
+shifted-last l k room p v h =
+    let moved = take (k - p) (drop p l) ++ drop (suc k) l in
+    ap (λ (a : List ℕ). set (a ++ moved) p v) (take-suc l p 0 (omega arith))
+    ∙ ap (λ (a : List ℕ). set a p v) (append_snoc (take p l) (get_or l p 0) moved)
+    ∙ set_at (take p l) (get_or l p 0) moved v p (length-take-le p l (omega arith))
 
 -- ---- the first k elements with it, and what begins there
 

@@ -1,10 +1,15 @@
 -- The conflict list as the code holds it: records where ties begin, put in one by one at their places. Definitions only.
 use Rattle.std.specs.Prelude.{◌≡◌, Option, None, Bool, true, false, ◌&&◌, List, [], ◌∷◌, ◌++◌, ℕ, suc, ◌-◌, ◌≤◌, ◌<◌, leb, length, get_or, take, drop}
 use Rattle.lists.specs.Lists.{before}
-use Rattle.graph_rules.specs.Table.{Table}
+use Rattle.graph_rules.specs.Table.{Table, table_of}
 use Rattle.graph_rules.specs.Build.{contenders}
+use Rattle.legal.specs.declared.Record.{Record}
 use Rattle.leaves.specs.Chains.{top_of, tie_from}
 use Rattle.graph_rules.specs.Layout.{most_states}
+
+-- the leaves of the tie that begins at a record
+abbrev pub tie_of : Record → List ℕ
+tie_of r = tie_from (table_of r.table.words.now) r.number
 
 -- the record where the tie of state s of a set begins; none: it has no tie, or is not in the set
 unfoldable pub tied_at : Table → List Bool → ℕ → Option ℕ

@@ -8,13 +8,14 @@ ghost use Rattle.std.proofs.lemmas.List.Edits.{sets};
 ghost use Rattle.lists.specs.Lists.{before};
 ghost use Rattle.graph_rules.specs.Table.{table_of};
 ghost use Rattle.graph_rules.specs.Build.{no_universal_start, empty_match, disambiguation, error_words, empty_leaves};
+ghost use Rattle.legal.specs.Records.{number_of};
 ghost use Rattle.leaves.specs.Chains.{tie_from};
-ghost use Rattle.conflicts.specs.Slots.{tied_at, slot, put_in, Held, InOrder};
+ghost use Rattle.conflicts.specs.Slots.{tie_of, tied_at, slot, put_in, Held, InOrder};
 ghost use Rattle.conflicts.specs.Listed.{ties_in, listed};
 ghost use Rattle.graph_rules.specs.Layout.{most_states, most_leaves};
 
 use leaves::{next_tied, top};
-use legal::Table;
+use legal::{Record, Table};
 use words::STATES;
 
 // The kinds of conflicts, by their first words.
@@ -25,32 +26,28 @@ enum Kind {
 }
 
 // The record where the tie of state s begins; none: it has no tie, or is not in the set.
-fn tied(table: Table<'_>, set: &[bool; STATES], s: usize) -> Option<usize>
+fn tied<'a>(table: Table<'a>, set: &[bool; STATES], s: usize) -> Option<Record<'a>>
     requires { s < get_or table.words.now 0 0 }
-    ensures value { result ≡ tied_at (table_of table.entry.words.now) set.now s }
-    ensures number { IfSome result (λ i. (0 < i) × (i ≤ get_or table.entry.words.now 3 0)) }
+    ensures number { number_of result ≡ tied_at (table_of table.entry.words.now) set.now s }
+    ensures table { IfSome result (λ r. r.table ≡ table.entry) }
 {
     if !set[s] {
         return None;
     }
     let i = top(table, s)?;
-    match next_tied(table, i) {
-        Some(_) => Some(i),
-        None => None,
-    }
+    next_tied(i)?;
+    Some(i)
 }
 
 // How many leaves the tie from record i has. (A tie is walked by its links, here and below.)
-fn tie_length(table: Table<'_>, i: usize) -> usize
-    requires i_nonzero { 0 < i }
-    requires i_bound { i ≤ get_or table.words.now 3 0 }
-    ensures { (result ≡ length (tie_from (table_of table.entry.words.now) i)) × (result ≤ most_leaves) }
+fn tie_length(i: Record<'_>) -> usize
+    ensures { (result ≡ length (tie_of i.entry)) × (result ≤ most_leaves) }
 {
     let mut number = 0;
     let mut at = Some(i);
     while let Some(j) = at {
         number += 1;
-        at = next_tied(table, j);
+        at = next_tied(j);
     }
     number
 }
@@ -72,19 +69,15 @@ pub fn tie_words(table: Table<'_>, set: &[bool; STATES]) -> TieWords
     for s in (0..table.states()).rev() {
         if let Some(i) = tied(table, set, s) {
             errors += 1;
-            words += 2 + tie_length(table, i);
+            words += 2 + tie_length(i);
         }
     }
     TieWords { errors, words }
 }
 
 // Whether the tie from record a comes before the one from record b, or is the same: by the first leaf that differs, a shorter prefix first.
-fn tie_before(table: Table<'_>, a: usize, b: usize) -> bool
-    requires a_nonzero { 0 < a }
-    requires a_bound { a ≤ get_or table.words.now 3 0 }
-    requires b_nonzero { 0 < b }
-    requires b_bound { b ≤ get_or table.words.now 3 0 }
-    ensures { result ≡ before (tie_from (table_of table.entry.words.now) a) (tie_from (table_of table.entry.words.now) b) }
+fn tie_before(a: Record<'_>, b: Record<'_>) -> bool
+    ensures { result ≡ before (tie_of a.entry) (tie_of b.entry) }
 {
     let mut one = Some(a);
     let mut other = Some(b);
@@ -92,30 +85,29 @@ fn tie_before(table: Table<'_>, a: usize, b: usize) -> bool
         let Some(j) = other else {
             return false;
         };
-        let x = table.match_leaf(i);
-        let y = table.match_leaf(j);
+        let x = i.leaf();
+        let y = j.leaf();
         if x != y {
             return x < y;
         }
-        one = next_tied(table, i);
-        other = next_tied(table, j);
+        one = next_tied(i);
+        other = next_tied(j);
     }
     true
 }
 
 // Where the tie from record i belongs among those from these records, which stand in order: before the first that it comes before. By halving, so
-// that a tie is compared with ten others at most. (By hand: `partition_point` asks that order of a closure, and is no plainer.)
-fn slot_of(table: Table<'_>, order: &[u16], i: usize) -> usize
-    requires i_nonzero { 0 < i }
-    requires i_bound { i ≤ get_or table.words.now 3 0 }
-    requires in_order { InOrder (table_of table.words.now) (get_or table.words.now 3 0) order.now (length order.now) }
-    ensures { (result ≡ slot (tie_from (table_of table.entry.words.now) i) (map (tie_from (table_of table.entry.words.now)) order.now)) × (result ≤ length order.now) }
+// that a tie is compared with ten others at most. (By hand: `partition_point` calls its closure on any number, and a record is made only of one that the
+// table has.)
+fn slot_of(order: &[u16], i: Record<'_>) -> usize
+    requires in_order { InOrder (table_of i.table.words.now) (get_or i.table.words.now 3 0) order.now (length order.now) }
+    ensures { (result ≡ slot (tie_of i.entry) (map (tie_from (table_of i.entry.table.words.now)) order.now)) × (result ≤ length order.now) }
 {
     let mut low = 0;
     let mut high = order.len();
     while low < high {
         let middle = low + (high - low) / 2;
-        if tie_before(table, i, order[middle] as usize) {
+        if tie_before(i, i.table.match_record(order[middle] as usize)) {
             high = middle;
         } else {
             low = middle + 1;
@@ -134,7 +126,8 @@ fn put_in(order: &mut [u16; STATES], count: usize, p: usize, v: u16)
     order[p] = v;
 }
 
-// The records where ties begin, the first `count` of them. (An array and a count: the repository has no heap.)
+// The numbers of the records where ties begin, the first `count` of them. (An array and a count: the repository has no heap. Numbers: records, each with
+// its table, would take twelve times the stack.)
 #[derive(Clone, Copy)]
 struct TieOrder {
     order: [u16; STATES],
@@ -151,8 +144,8 @@ fn tie_order(table: Table<'_>, set: &[bool; STATES]) -> TieOrder
     let mut count = 0;
     for s in (0..table.states()).rev() {
         if let Some(i) = tied(table, set, s) {
-            let p = slot_of(table, &order[..count], i);
-            put_in(&mut order, count, p, i as u16);
+            let p = slot_of(&order[..count], i);
+            put_in(&mut order, count, p, i.number as u16);
             count += 1;
         }
     }
@@ -160,21 +153,19 @@ fn tie_order(table: Table<'_>, set: &[bool; STATES]) -> TieOrder
 }
 
 // Writes the conflict of the tie from record i at place `at`; answers the place after it.
-fn write_tie(table: Table<'_>, i: usize, errors: &mut [u16], at: usize) -> usize
-    requires i_nonzero { 0 < i }
-    requires i_bound { i ≤ get_or table.words.now 3 0 }
-    requires i_in_bounds { at + length (error_words (disambiguation (tie_from (table_of table.words.now) i))) ≤ length errors.old }
-    ensures value { result ≡ at + length (error_words (disambiguation (tie_from (table_of table.entry.words.now) i))) }
-    ensures errors_after { errors.new ≡ sets errors.old at (error_words (disambiguation (tie_from (table_of table.entry.words.now) i))) }
+fn write_tie(i: Record<'_>, errors: &mut [u16], at: usize) -> usize
+    requires i_in_bounds { at + length (error_words (disambiguation (tie_of i))) ≤ length errors.old }
+    ensures value { result ≡ at + length (error_words (disambiguation (tie_of i.entry))) }
+    ensures errors_after { errors.new ≡ sets errors.old at (error_words (disambiguation (tie_of i.entry))) }
 {
     errors[at] = Kind::Disambiguation as u16;
-    errors[at + 1] = tie_length(table, i) as u16;
+    errors[at + 1] = tie_length(i) as u16;
     let mut k = at + 2;
     let mut tie = Some(i);
     while let Some(j) = tie {
-        errors[k] = table.match_leaf(j) as u16;
+        errors[k] = j.leaf() as u16;
         k += 1;
-        tie = next_tied(table, j);
+        tie = next_tied(j);
     }
     k
 }
@@ -187,7 +178,7 @@ pub fn write_ties(table: Table<'_>, set: &[bool; STATES], errors: &mut [u16])
     let sorted = tie_order(table, set);
     let mut at = 0;
     for i in &sorted.order[..sorted.count] {
-        at = write_tie(table, *i as usize, errors, at);
+        at = write_tie(table.match_record(*i as usize), errors, at);
     }
 }
 
@@ -195,13 +186,9 @@ pub fn write_ties(table: Table<'_>, set: &[bool; STATES], errors: &mut [u16])
 pub fn count_empty(table: Table<'_>) -> usize
     ensures { result ≡ length (empty_leaves (table_of table.entry.words.now)) }
 {
-    let mut number = 0;
-    for l in 0..table.leaves() {
-        if table.can_be_empty(l) {
-            number += 1;
-        }
-    }
-    number
+    (0..table.leaves())
+        .filter(|l| table.can_be_empty(*l))
+        .count()
 }
 
 // Rule 1, where a leaf can match empty text: writes a conflict for each such leaf.

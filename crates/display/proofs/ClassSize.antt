@@ -12,16 +12,17 @@ use Rattle.lists.specs.Sets.{count}
 use Rattle.lists.proofs.Bools.{Is, is, yes-is, no-is}
 use Rattle.texts.specs.Text.{bytes, after, joined}
 use Rattle.classes.specs.Classes.{Class, Range, widen, ranges_from, ranges}
-use Rattle.display.specs.Display.{letter_of, escaped, range_text, class_text}
-use Rattle.display.proofs.Escapes.{escaped-letter, escaped-plain, escaped-hex, range-one, range-two}
+use Rattle.display.specs.Display.{letter_of, escaped_by, escaped, range_text, class_text}
+use Rattle.display.proofs.Escapes.{range-one, range-two}
 
 pub escaped-size : (b : ℕ) → length (escaped b) ≤ 4
-escaped-size b = go (letter_of b) refl (is (leb 32 b && leb b 126))
+unfolding escaped
+escaped-size b = go (letter_of b) (leb 32 b && leb b 126) refl
   where
-    go : (o : Option ℕ) → o ≡ letter_of b → Is (leb 32 b && leb b 126) → length (escaped b) ≤ 4
-    go (Some l) e q = rw (escaped-letter b l e) (omega arith)
-    go None e (yes-is q) = rw (escaped-plain b e q) (omega arith)
-    go None e (no-is q) = rw (escaped-hex b e q) (omega arith)
+    go : (o : Option ℕ) (t : Bool) → (leb 32 b && leb b 126) ≡ t → length (escaped_by o b) ≤ 4
+    go (Some l) t q = omega arith
+    go None true q = rw q (omega arith)
+    go None false q = rw q (omega arith)
 
 -- the length of a range's text, by its two ways
 data Ways (first last : ℕ) : Type 0 where

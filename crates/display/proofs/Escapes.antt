@@ -1,29 +1,30 @@
--- The three ways in which a byte is written, and the two in which a range is. Assumes nothing.
-use Rattle.std.specs.Prelude.{Option, Some, None}
-use mathlib.Core.Path.{◌≡◌, sym, ap, ◌∙◌}
-use mathlib.Core.Bool.{Bool, true, false, cond, ◌&&◌}
+-- A byte as the library escapes it, and the two ways in which a range is written. Assumes nothing.
+use mathlib.Core.Path.{◌≡◌, refl, sym, ap, ◌∙◌}
+use mathlib.Core.Bool.{Bool, true, false, cond}
 use native.Mathlib.Omega.{arith}
 use lib.ListN.{length, length-append}
 use mathlib.Core.List.{◌++◌}
-use Prim.Native.Nat.{ℕ, ◌/◌, ◌%◌, ◌≤◌}
+use Prim.Native.Nat.{ℕ, ◌≤◌, ◌<◌}
 use borrow.Author.Tests.{eq-eqb, ne_eqb}
-use lib.Dec.{eqb, leb}
-use Rattle.texts.specs.Text.{bytes, one}
-use Rattle.display.specs.Display.{hex_digit, letter_of, escaped_by, escaped, range_text}
+use lib.Dec.{eqb}
+use Rattle.texts.specs.Text.{bytes}
+use Rattle.lists.specs.Lists.{all_l, eq_list, below}
+use Rattle.lists.proofs.Elements.{list-sound, eqb-sound, all-at, get_or-tab0, length-tab}
+use Rattle.std.specs.Char.Escape.{escape_ascii}
+use Rattle.display.specs.Display.{letter_of, escaped, range_text}
 
-module _ (b : ℕ) where
-  pub escaped-letter : (l : ℕ) → Some l ≡ letter_of b → escaped b ≡ bytes "\\" ++ one l
-  unfolding escaped
-  escaped-letter l e = ap (λ (o : Option ℕ). escaped_by o b) (sym e)
+-- the library's escapes are those of the definition, byte by byte
+pub escapes-alike : (b : ℕ) → b < 256 → escape_ascii b ≡ escaped b
+unfolding escaped letter_of
+escapes-alike b h =
+    (list-sound eqb eqb-sound).eq (escape_ascii b) (escaped b)
+    (sym (ap same (get_or-tab0 256 (λ x. x) b 0 h)) ∙ all-at same (below 256) b 0 each (omega (arith, length-tab 0 256 (λ x. x), h)))
+  where
+    same : ℕ → Bool
+    same x = eq_list eqb (escape_ascii x) (escaped x)
 
-  module _ (e : None ≡ letter_of b) where
-    pub escaped-plain : (leb 32 b && leb b 126) ≡ true → escaped b ≡ one b
-    unfolding escaped
-    escaped-plain p = ap (λ (o : Option ℕ). escaped_by o b) (sym e) ∙ rw p
-
-    pub escaped-hex : (leb 32 b && leb b 126) ≡ false → escaped b ≡ bytes "\\x" ++ (one (hex_digit (b / 16)) ++ one (hex_digit (b % 16)))
-    unfolding escaped
-    escaped-hex p = ap (λ (o : Option ℕ). escaped_by o b) (sym e) ∙ rw p
+    each : all_l same (below 256) ≡ true
+    each = refl
 
 -- ---- a range
 

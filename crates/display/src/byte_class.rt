@@ -1,49 +1,19 @@
 // The text of a class of bytes (`ByteClass` in the Rust).
-ghost use Rattle.std.specs.Prelude.{◌≡◌, ◌<◌};
 ghost use Rattle.texts.specs.Text.{Wrote, Counts};
-ghost use Rattle.display.specs.Display.{hex_digit, letter_of, escaped, range_text, class_text};
+ghost use Rattle.display.specs.Display.{escaped, range_text, class_text};
 
 use classes::byte_class::ByteRange;
-
-// The bytes that stand as they are: from the space to the tilde.
-const FIRST_KEPT: u8 = 32;
-
-const LAST_KEPT: u8 = 126;
-
-// The letter after the backslash, of a byte that is written so.
-fn letter(b: u8) -> Option<u8>
-    ensures { result ≡ letter_of b }
-{
-    match b {
-        b'\t' => Some(b't'),
-        b'\r' => Some(b'r'),
-        b'\n' => Some(b'n'),
-        b'\'' | b'"' | b'\\' => Some(b),
-        _ => None,
-    }
-}
-
-// A digit of a number in hexadecimal, in lower case.
-fn hex_digit(d: u8) -> u8
-    requires { d < 16 }
-    ensures { result ≡ hex_digit d }
-{
-    if d < 10 { 48 + d } else { 87 + d }
-}
 
 // A byte as `escape_default` gives it.
 fn escape_default(out: &mut [u8], at: usize, b: u8) -> usize
     requires { Counts at (escaped b) }
     ensures { Wrote out.old at (escaped b) out.new result }
 {
-    if let Some(letter) = letter(b) {
-        return texts::pair(out, at, b'\\', letter);
+    let mut next = at;
+    for e in b.escape_ascii() {
+        next = texts::byte(out, next, e);
     }
-    if FIRST_KEPT <= b && b <= LAST_KEPT {
-        return texts::byte(out, at, b);
-    }
-    let next = texts::pair(out, at, b'\\', b'x');
-    texts::pair(out, next, hex_digit(b / 16), hex_digit(b % 16))
+    next
 }
 
 // A range: its first byte, and its last if that is another.

@@ -37,7 +37,7 @@ fn fits(words: &[u16]) -> bool
 impl Text for Conflict<'_> {
     ghost text = { λ conflict. line_of conflict.words.now };
 
-    // The kind, and each leaf after a space.
+    // The kind, and each leaf after a space. (The kind by its number: any is taken, so an enum would refuse words that are not refused.)
     fn write(&self, out: &mut [u8], at: usize) -> usize {
         let words = self.words;
         let mut next = texts::numbered(out, at, b"error ", words[0] as usize);

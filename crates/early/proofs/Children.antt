@@ -4,7 +4,7 @@ use mathlib.Core.Path.{◌≡◌, refl, sym, ap, ◌∙◌}
 use mathlib.Core.Bool.{true}
 use mathlib.Core.List.{List, [], ◌∷◌, ◌++◌, map, append-nil}
 use mathlib.Core.Logic.{⊎_elim}
-use Prim.Native.Nat.{ℕ, ◌≤◌, ◌<◌}
+use Prim.Native.Nat.{ℕ, zero, suc, ◌≤◌, ◌<◌}
 use native.Mathlib.Omega.{arith}
 use lib.ListN.{length, get_or, take, drop, length-map, take-append-drop, drop_of_length-le, get_or-map}
 use lib.Seq.{drop-cons, length-take-le, get_or-take, ext_get_or}
@@ -37,6 +37,11 @@ module _ (s : State) (width : length s.steps ≡ step_count) where
 -- the leaf that edge c of state s leads to
 abbrev pub leaf_by : List ℕ → ℕ → ℕ → Option ℕ
 leaf_by w s c = accept_by (graph_from w) (to (graph_from w) s c)
+
+-- byte 0 leads to its own leaf, so it is the others that are asked
+pub from-one : (w : List ℕ) (s : ℕ) {n : ℕ} → ((c : ℕ) → 1 ≤ c → c < n → leaf_by w s c ≡ leaf_by w s 0) → (c : ℕ) → c < n → leaf_by w s c ≡ leaf_by w s 0
+from-one w s f zero b = refl
+from-one w s f (suc c) b = f (suc c) (omega arith) b
 
 -- the early leaf of state s
 abbrev pub early_leaf : List ℕ → ℕ → Option ℕ

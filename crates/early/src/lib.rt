@@ -26,10 +26,8 @@ fn agreed_leaf(graph: Graph<'_>, s: usize) -> Option<usize>
     ensures leaf { IfSome result (λ l. l < no_leaf) }
 {
     let leaf = accept_by(graph, s, 0);
-    for b in 1..END {
-        if accept_by(graph, s, b) != leaf {
-            return None;
-        }
+    if !(1..END).all(|b| accept_by(graph, s, b) == leaf) {
+        return None;
     }
     let Some(end) = graph.target(s, END) else {
         return leaf;

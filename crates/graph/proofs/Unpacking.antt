@@ -5,9 +5,9 @@ use Prim.Native.Nat.{ℕ, zero, suc, ◌+◌, ◌*◌, ◌/◌, ◌%◌, ◌≤�
 use native.Mathlib.Numerals.{add-one}
 use native.Mathlib.Omega.{arith}
 use borrow.Author.Tests.{eq-eqb, ne_eqb, lt-ltb, le-ltb}
-use lib.ListN.{length, get_or, take, drop, set, replicate, length-append}
+use lib.ListN.{length, get_or, take, drop, set, replicate}
 use lib.Seq.{take-suc, take_all, take_at, length-take-le}
-use Rattle.lists.proofs.Buffers.{Filled, filled_none, filled-one}
+use Rattle.lists.proofs.Buffers.{Filled, filled-one}
 use Rattle.refusals.specs.declared.Refusal.TheVariants.{ImageLength}
 use Rattle.graph.specs.New.{refused_by, new_of, words_of, image_of}
 
@@ -31,9 +31,6 @@ abbrev pub Unpacked : List ℕ → List ℕ → ℕ → List ℕ → Type 0
 Unpacked image found i out = (i ≤ length image / 2) × (length out ≡ length found) × Filled found (take i (words_of image)) out
 
 module _ (image found : List ℕ) (room : length image / 2 ≤ length found) where
-  pub unpacked-none : Unpacked image found 0 found
-  unpacked-none = (omega arith, refl, filled_none found)
-
   pub unpacked-one : (i : ℕ) (out : List ℕ) (x : ℕ) → Unpacked image found i out → i < length image / 2
       → x ≡ get_or image (2 * i) 0 + 256 * get_or image (2 * i + 1) 0 → length (set out i x) ≡ length found → Unpacked image found (i + 1) (set out i x)
   unpacked-one i out x u h e l =
@@ -72,6 +69,3 @@ module _ (image graph errors : List ℕ) where
       rw (ne_eqb (length image % 2) 1 n) (rw (le-ltb 65536 (length image) h)
       (ap (λ (w : List ℕ). new_of w graph errors)
       (ap (take (length image / 2)) e ∙ take_at (words_of image) (drop (length image / 2) (replicate 32768 0)) (length image / 2) (words-length image))))
-
-pub unpacked-long : (image space found : List ℕ) → space ≡ words_of image ++ found → length image / 2 ≤ length space
-unpacked-long image space found e = let l = words-length image in let n = length-append (words_of image) found in let s = ap length e in omega arith

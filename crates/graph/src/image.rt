@@ -9,7 +9,7 @@ use refusals::Refusal;
 fn word(low: u8, high: u8) -> u16
     ensures { result ≡ low + 256 * high }
 {
-    low as u16 + 256 * high as u16
+    u16::from_le_bytes([low, high])
 }
 
 // The words of an image, written into a lent buffer; the rest of the buffer stays.
@@ -30,6 +30,7 @@ pub fn from_image(image: &[u8], graph: &mut [u16], errors: &mut [u16]) -> Result
     if image.len() % 2 == 1 || 65536 < image.len() {
         return Err(Refusal::ImageLength);
     }
+    // (an array: the repository has no heap)
     let mut space = [0u16; 32768];
     unpack(image, &mut space);
     let n = image.len() / 2;

@@ -21,6 +21,9 @@ pub struct Counts {
     pub words: usize,
 }
 
+// Table and buffers come apart, as C lends them. Each function below asks for room in the graph's buffer for the table's states: a fact of two values, a
+// table and a buffer that is then written, which a struct of both would owe at each write.
+
 // No states: the count and the root are 0, and so is every word up to those of the table's states.
 fn no_states(table: Table<'_>, graph: &mut [u16])
     requires { graph_size (get_or table.words.now 0 0) ≤ length graph.old }

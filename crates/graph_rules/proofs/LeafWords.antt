@@ -2,14 +2,14 @@
 use Rattle.std.specs.Prelude.{Some, unwrap_or}
 use mathlib.Core.Path.{◌≡◌, ap, ◌∙◌}
 use mathlib.Core.List.{List}
-use Prim.Native.Nat.{ℕ, ◌≤◌, ◌<◌}
+use Prim.Native.Nat.{ℕ, ◌<◌}
 use native.Mathlib.Omega.{arith}
 use lib.ListN.{get_or}
 use Rattle.graph_rules.specs.Table.{table_of, refusal}
 use Rattle.graph_rules.specs.Graph.{or_none}
 use Rattle.graph_rules.specs.Build.{leaf_of}
 use Rattle.graph_rules.proofs.Shape.{few-leaves, legal-leaf}
-use Rattle.graph_rules.proofs.Words.{back_none, get_d_le}
+use Rattle.graph_rules.proofs.Words.{back_none}
 use Rattle.graph_rules.specs.Layout.{no_leaf}
 
 module _ (w : List ℕ) (legal : refusal w ≡ 0) (s : ℕ) where
@@ -18,6 +18,3 @@ module _ (w : List ℕ) (legal : refusal w ≡ 0) (s : ℕ) where
 
   pub leaf-back : (l : ℕ) → l ≡ unwrap_or (leaf_of (table_of w) s) no_leaf → or_none no_leaf l ≡ leaf_of (table_of w) s
   leaf-back l e = ap (or_none no_leaf) e ∙ back_none no_leaf (leaf_of (table_of w) s) leaf-small
-
-  pub leaf-low : unwrap_or (leaf_of (table_of w) s) no_leaf ≤ no_leaf
-  leaf-low = get_d_le no_leaf (leaf_of (table_of w) s) leaf-small

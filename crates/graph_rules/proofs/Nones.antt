@@ -1,10 +1,9 @@
 -- A word that stands for a number, or for none. Assumes nothing.
 use Rattle.std.specs.Prelude.{unwrap_or, Option, Some, None}
-use mathlib.Core.Path.{◌≡◌, refl, sym, ap, ◌∙◌}
+use mathlib.Core.Path.{◌≡◌, sym, ap, ◌∙◌}
 use Prim.Native.Nat.{ℕ}
 use borrow.Author.Tests.{eqb-true, eq-eqb, ne_eqb}
 use lib.Dec.{eqb}
-use Rattle.lists.specs.Lists.{eq_option}
 use Rattle.lists.proofs.Bools.{Is, is, yes-is, no-is, none-some}
 use Rattle.graph_rules.specs.Graph.{or_none}
 
@@ -26,20 +25,5 @@ module _ (none-word x : ℕ) where
   pub or_some : (u : ℕ) → or_none none-word x ≡ Some u → (x ≡ u) × (x ≡ none-word → ⊥)
   or_some u e = (sym or_word ∙ ap (λ (o : Option ℕ). unwrap_or o none-word) e, λ q. none-some (sym (or-none q) ∙ e))
 
-  -- and another number is met exactly by its own word
-  pub or-meets : (u : ℕ) → (u ≡ none-word → ⊥) → eq_option (Some u) (or_none none-word x) ≡ eqb u x
-  or-meets u n = go (is (eqb x none-word))
-    where
-      go : Is (eqb x none-word) → eq_option (Some u) (or_none none-word x) ≡ eqb u x
-      go (yes-is q) = rw q (sym (ne_eqb u x (λ z. n (z ∙ eqb-true x none-word q))))
-      go (no-is q) = rw q
-
 pub or_same : (none-word x y : ℕ) → or_none none-word x ≡ or_none none-word y → x ≡ y
 or_same n x y e = sym (or_word n x) ∙ ap (λ (o : Option ℕ). unwrap_or o n) e ∙ or_word n y
-
--- two that are not the word for none are equal where their words are
-pub word-inj : (k : ℕ) (a b : Option ℕ) → (a ≡ Some k → ⊥) → (b ≡ Some k → ⊥) → unwrap_or a k ≡ unwrap_or b k → a ≡ b
-word-inj k None None m n e = refl
-word-inj k None (Some y) m n e = absurd (n (ap {B = Option ℕ} Some (sym e)))
-word-inj k (Some x) None m n e = absurd (m (ap {B = Option ℕ} Some e))
-word-inj k (Some x) (Some y) m n e = ap {B = Option ℕ} Some e

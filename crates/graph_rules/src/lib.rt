@@ -10,7 +10,7 @@ pub struct Found {
 }
 
 // Where a table is not clean: the first of the three rules that it breaks, counted from 1, and the lowest state where. 65,535: it belongs to no state.
-// (A number for that, since in the definitions a rule's place is an Option already, none where the rule holds.)
+// (Numbers both: decision 51 counts the rules, and in the definitions a rule's place is an Option already, none where the rule holds.)
 #[derive(Clone, Copy, PartialEq, Eq)]
 pub struct Breach {
     pub rule: usize,

@@ -3,15 +3,16 @@ use mathlib.Core.Path.{◌≡◌, sym, ap, ◌∙◌}
 use mathlib.Core.Bool.{true, false, ◌||◌, false≢true}
 use mathlib.Core.List.{List, []}
 use mathlib.Core.Logic.{◌⊎◌, inl, inr, ⊎_elim}
-use Prim.Native.Nat.{ℕ, zero, suc, ◌≤◌, ◌<◌}
+use Prim.Native.Nat.{ℕ, zero, suc, ◌+◌, ◌≤◌, ◌<◌}
 use native.Mathlib.Nat.{not-suc-le-zero}
+use native.Mathlib.Numerals.{add-one}
 use native.Mathlib.Omega.{arith}
 use borrow.Author.Tests.{eqb-true, eqb-false, ltb-true, leb-true, lt-ltb, le-leb}
 use lib.Dec.{eqb, leb, ltb}
 use lib.ListN.{length, get_or}
 use Rattle.lists.specs.Lists.{all_l}
 use Rattle.lists.proofs.Bools.{Is, is, yes-is, no-is, and_both, and_intro, or_cases, or_left, or_right}
-use Rattle.lists.proofs.Judged.{Judged, judged-false, all-judged, below-judged}
+use Rattle.lists.proofs.Judged.{Judged, all-judged, below-judged}
 use Rattle.graph_rules.specs.Table.{Leaf, Row, table_of, row_of, leaf_at, match_of, match_fits, step, empties_fit, targets_fit, heads_fit, records_fit}
 use Rattle.graph_rules.proofs.Flat.{step-word, head-word, empty-word, leaf-word, next_word_lem}
 use Rattle.graph_rules.proofs.Counts.{leaves-length, rows-length, row-width}
@@ -69,7 +70,7 @@ module _ (w : List ℕ) where
   next-leaf i p h b n =
       ap (λ (k : ℕ). (match_of (table_of w) k).leaf) (match-next i p h) ∙ match-leaf (next_word w i) (omega (arith, n)) (omega arith)
 
-  record-shown : (i : ℕ) → 0 < i → i ≤ records w → RecordFits w i → match_fits (table_of w) i ≡ true
+  pub record-shown : (i : ℕ) → 0 < i → i ≤ records w → RecordFits w i → match_fits (table_of w) i ≡ true
   unfolding match_fits
   record-shown i p h f =
       let m = match_of (table_of w) i in
@@ -119,21 +120,30 @@ module _ (w : List ℕ) where
           (λ z. let y = ltb-true m.leaf (match_of (table_of w) m.next).leaf z in inr (omega arith))
           (or_cases (eqb m.next 0) _ o)
 
-  records-judged : Judged (records_fit w) (records w) (λ i. RecordFits w (suc i))
+  pub record-false : (i : ℕ) → 0 < i → i ≤ records w → (RecordFits w i → ⊥) → match_fits (table_of w) i ≡ false
+  record-false i p h n = go (is (match_fits (table_of w) i))
+    where
+      go : Is (match_fits (table_of w) i) → match_fits (table_of w) i ≡ false
+      go (yes-is e) = absurd (n (record-means i p h e))
+      go (no-is e) = e
+
+  -- with a leaf and a next that are low, and a next that is a record, by their leaves
+  pub record-next : (i : ℕ) → 0 < i → i ≤ records w → leaf_word w i < leaves w → next_word w i < i → (next_word w i ≡ 0 → ⊥)
+      → ltb (leaf_word w i) (leaf_word w (next_word w i)) ≡ match_fits (table_of w) i
+  record-next i p h l b n = go (is (ltb (leaf_word w i) (leaf_word w (next_word w i))))
+    where
+      go : Is (ltb (leaf_word w i) (leaf_word w (next_word w i))) → ltb (leaf_word w i) (leaf_word w (next_word w i)) ≡ match_fits (table_of w) i
+      go (yes-is e) = e ∙ sym (record-shown i p h (record { leaf-below = l; next-below = b; ascending = inr (ltb-true _ _ e) }))
+      go (no-is e) = e ∙ sym (record-false i p h (λ f. ⊎_elim n (λ u. false≢true (sym e ∙ lt-ltb _ _ u)) f.ascending))
+
+  pub records-judged : Judged (records_fit w) (records w) (λ k. match_fits (table_of w) (k + 1) ≡ true)
   unfolding records_fit
-  records-judged =
-      below-judged (λ i. match_fits (table_of w) (suc i)) (λ i. RecordFits w (suc i)) (records w)
-      (λ i h f. record-shown (suc i) (omega arith) h f)
-      (λ i h e. record-means (suc i) (omega arith) h e)
+  records-judged = below-judged (λ k. match_fits (table_of w) (suc k)) (λ k. match_fits (table_of w) (k + 1) ≡ true) (records w) (λ k h e. rw (add-one k) at e) (λ k h e. rw (add-one k) e)
 
   -- by the records' numbers, from 1
   pub records-all : ((i : ℕ) → 0 < i → i ≤ records w → RecordFits w i) → records_fit w ≡ true
-  records-all f = records-judged.all (λ i h. f (suc i) (omega arith) h)
+  records-all f = records-judged.all (λ k h. record-shown (k + 1) (omega arith) (omega arith) (f (k + 1) (omega arith) (omega arith)))
 
   pub records-each : records_fit w ≡ true → (i : ℕ) → 0 < i → i ≤ records w → RecordFits w i
   records-each e zero p h = absurd (not-suc-le-zero p)
-  records-each e (suc i) p h = records-judged.each e i h
-
-  pub records-false : (i : ℕ) → 0 < i → i ≤ records w → (RecordFits w i → ⊥) → records_fit w ≡ false
-  records-false zero p h n = absurd (not-suc-le-zero p)
-  records-false (suc i) p h n = judged-false records-judged i h n
+  records-each e (suc k) p h = record-means (suc k) p h (rw (add-one k) at (records-judged.each e k h))

@@ -1,7 +1,7 @@
 // The conditions on a table's words, judged in the order of their numbers, so that no word is read that is not there.
 ghost use Rattle.std.specs.Prelude.{◌≡◌, ◌≢◌, ◌||◌, ◌<◌, ◌≤◌, eqb, ltb, get_or, MatchResult};
 ghost use Rattle.refusals.specs.Refusals.{numbered};
-ghost use Rattle.graph_rules.specs.Table.{refusal, counts_fit, empties_fit, targets_fit, heads_fit, records_fit};
+ghost use Rattle.graph_rules.specs.Table.{refusal, table_of, counts_fit, empties_fit, targets_fit, heads_fit, match_fits, records_fit};
 ghost use Rattle.graph_rules.specs.Layout.{no_state, most_states, most_leaves, most_matches, table_row, leaf_place, row_place, match_place};
 ghost use Rattle.legal.specs.Conditions.{Sized, states, leaves, records};
 
@@ -54,7 +54,7 @@ impl<'a> Counted<'a> {
         word(self.words, 0)
     }
 
-    // The start state, or NONE.
+    // The start state, or NONE. (The word: it is judged here.)
     #[inline]
     pub fn start(self) -> usize
         ensures { result ≡ get_or self.entry.words.now 1 0 }
@@ -98,7 +98,7 @@ impl<'a> Counted<'a> {
         table::row_word(self.words, self.leaves(), s, c)
     }
 
-    // Word c, 0 or 1, of match record i, from 1.
+    // Word c, 0 or 1, of match record i, from 1. (A number, and no `Record`: those are of a table whose words have been judged, which are judged here.)
     #[inline]
     pub fn match_word(self, i: usize, c: usize) -> usize
         requires i_nonzero { 0 < i }
@@ -123,15 +123,11 @@ impl<'a> Counted<'a> {
     pub fn empties_fit(self) -> bool
         ensures { result ≡ empties_fit self.entry.words.now }
     {
-        for l in 0..self.leaves() {
-            if 1 < self.leaf_word(l, 2) {
-                return false;
-            }
-        }
-        true
+        (0..self.leaves()).all(|l| self.leaf_word(l, 2) <= 1)
     }
 
-    // Condition 6.
+    // Condition 6. (Two loops: by them the check of the table of examples/json.image takes 44,335 instructions; with `all` for both it took 53,613, for the
+    // outer one 95,456.)
     pub fn targets_fit(self) -> bool
         ensures { result ≡ targets_fit self.entry.words.now }
     {
@@ -150,33 +146,27 @@ impl<'a> Counted<'a> {
     pub fn heads_fit(self) -> bool
         ensures { result ≡ heads_fit self.entry.words.now }
     {
-        for s in 0..self.states() {
-            if self.records() < self.row_word(s, HEAD) {
-                return false;
-            }
-        }
-        true
+        (0..self.states()).all(|s| self.row_word(s, HEAD) <= self.records())
     }
 
-    // Condition 7, the records: i is a record's number. A next that is below it is a record's number too, or 0, the word that ends a chain.
+    // Condition 7, the records.
     pub fn records_fit(self) -> bool
         ensures { result ≡ records_fit self.entry.words.now }
     {
-        for i in 1..self.records() + 1 {
-            let leaf = self.match_word(i, 0);
-            let next = self.match_word(i, 1);
-            if self.leaves() <= leaf {
-                return false;
-            }
-            if i <= next {
-                return false;
-            }
-            if next != 0 {
-                if self.match_word(next, 0) <= leaf {
-                    return false;
-                }
-            }
+        (0..self.records()).all(|k| self.record_fits(k + 1))
+    }
+
+    // Whether record i keeps condition 7. A next that is below it is a record's number too, or 0, the word that ends a chain.
+    fn record_fits(self, i: usize) -> bool
+        requires i_nonzero { 0 < i }
+        requires i_bound { i ≤ records self.words.now }
+        ensures { result ≡ match_fits (table_of self.entry.words.now) i }
+    {
+        let leaf = self.match_word(i, 0);
+        let next = self.match_word(i, 1);
+        if self.leaves() <= leaf || i <= next {
+            return false;
         }
-        true
+        next == 0 || leaf < self.match_word(next, 0)
     }
 }

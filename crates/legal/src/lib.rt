@@ -1,22 +1,21 @@
-// Refusals 1 to 7: a table's words are judged once; whoever holds a `Table` knows that none of them holds, and reads by it without a check.
+// Refusals 1 to 7: a table's words are judged once; whoever holds a `Table` knows that none of them holds, and reads by it without a check. So it is with
+// a `Record` of its match records.
 #![tactic(auto)]
 
-ghost use Rattle.std.specs.Prelude.{◌≡◌, ◌≢◌, ◌<◌, ◌≤◌, eqb, get_or, unwrap_or, IfSome, MatchResult};
+ghost use Rattle.std.specs.Prelude.{◌≡◌, ◌≢◌, ℕ, ◌<◌, ◌≤◌, eqb, length, get_or, IfSome, MatchResult};
 ghost use Rattle.refusals.specs.Refusals.{numbered};
 ghost use Rattle.graph_rules.specs.Table.{refusal, table_of, row_of, step, leaf_at, match_of};
-ghost use Rattle.graph_rules.specs.Layout.{step_count, most_states, most_leaves, most_matches, leaf_place};
+ghost use Rattle.graph_rules.specs.Graph.{or_none};
+ghost use Rattle.graph_rules.specs.Layout.{step_count, most_states, most_leaves, most_matches, leaf_place, match_place};
 
 use crate::conditions::Counted;
 use refusals::Refusal;
-use words::table::{HEAD, leaf_word, match_word, row_word};
-use words::{NONE, or_none, word};
-
-// The word that is no match record's number.
-const NO_RECORD: usize = 0;
+use words::table::{HEAD, leaf_word, match_word, row_place, row_word};
+use words::{NONE, STEPS, or_none, word};
 
 mod conditions;
 
-// A table by its words.
+// A table by its words. A state, as a step, stays a number with its bound, which a loop over all of them has by itself.
 #[derive(Clone, Copy)]
 pub struct Table<'a> {
     pub words: &'a [u16],
@@ -24,6 +23,8 @@ pub struct Table<'a> {
 }
 
 impl<'a> Table<'a> {
+    ghost use Rattle.legal.specs.Records.{number_of};
+
     // The table that these words are; refused by the lowest number whose condition they break.
     pub fn new(words: &'a [u16]) -> Result<Table<'a>, Refusal>
         ensures { MatchResult result (λ table. (table.words.now ≡ words.now) × (refusal words.now ≡ 0)) (λ r. (r ≡ numbered (refusal words.now)) × (refusal words.now ≢ 0)) }
@@ -52,7 +53,8 @@ impl<'a> Table<'a> {
         word(self.words, 0)
     }
 
-    // The start state.
+    // The start state. (Its takers get it beside the table: a struct of both would be made at each call, and taken apart at once by `reached` and `rows`,
+    // which ask only that it is a state.)
     #[inline]
     pub fn start(self) -> Option<usize>
         ensures value { result ≡ (table_of self.entry.words.now).start }
@@ -87,14 +89,26 @@ impl<'a> Table<'a> {
         row_word(self.words, self.leaves(), s, c)
     }
 
+    // The targets of state s, by each byte and by the end step.
+    #[inline]
+    pub fn steps(self, s: usize) -> &'a [u16]
+        requires { s < get_or self.words.now 0 0 }
+        ensures targets { result.now ≡ (row_of (table_of self.entry.words.now) s).steps }
+        ensures count { length result.now ≡ step_count }
+        ensures states { (c : ℕ) → get_or result.now c 0 < get_or self.entry.words.now 0 0 }
+    {
+        let at = row_place(self.leaves(), s, 0);
+        &self.words[at..at + STEPS]
+    }
+
     // The first record of state s's match chain; none: the chain is empty.
     #[inline]
-    pub fn head(self, s: usize) -> Option<usize>
+    pub fn head(self, s: usize) -> Option<Record<'a>>
         requires { s < get_or self.words.now 0 0 }
-        ensures value { unwrap_or result 0 ≡ (row_of (table_of self.entry.words.now) s).head }
-        ensures number { IfSome result (λ i. (0 < i) × (i ≤ get_or self.entry.words.now 3 0)) }
+        ensures number { number_of result ≡ or_none 0 (row_of (table_of self.entry.words.now) s).head }
+        ensures table { IfSome result (λ r. r.table ≡ self.entry) }
     {
-        or_none(NO_RECORD, row_word(self.words, self.leaves(), s, HEAD))
+        self.named(row_word(self.words, self.leaves(), s, HEAD))
     }
 
     // Word c of leaf l: priority low half, high half, empty flag.
@@ -116,27 +130,75 @@ impl<'a> Table<'a> {
         self.leaf_word(l, 2) == 1
     }
 
-    // The leaf of match record i, from 1.
+    // Match record i, from 1.
     #[inline]
-    pub fn match_leaf(self, i: usize) -> usize
+    pub fn match_record(self, i: usize) -> Record<'a>
         requires i_nonzero { 0 < i }
         requires i_bound { i ≤ get_or self.words.now 3 0 }
-        ensures { (result ≡ (match_of (table_of self.entry.words.now) i).leaf) × (result < get_or self.entry.words.now 2 0) }
+        ensures { (result.table ≡ self.entry) × (result.number ≡ i) }
     {
-        match_word(self.words, self.leaves(), self.states(), i, 0)
+        Record {
+            table: self,
+            number: i,
+        }
     }
 
-    // The record after match record i in its chain; none: it is the chain's last.
+    // The match record that a word names; 0 names none.
     #[inline]
-    pub fn match_next(self, i: usize) -> Option<usize>
-        requires i_nonzero { 0 < i }
-        requires i_bound { i ≤ get_or self.words.now 3 0 }
-        ensures value { unwrap_or result 0 ≡ (match_of (table_of self.entry.words.now) i).next }
-        ensures number { IfSome result (λ j. (0 < j) × (j < i)) }
+    fn named(self, word: usize) -> Option<Record<'a>>
+        requires { word ≤ get_or self.words.now 3 0 }
+        ensures number { number_of result ≡ or_none 0 word }
+        ensures table { IfSome result (λ r. r.table ≡ self.entry) }
     {
-        or_none(
-            NO_RECORD,
-            match_word(self.words, self.leaves(), self.states(), i, 1),
+        if word == 0 {
+            None
+        } else {
+            Some(self.match_record(word))
+        }
+    }
+}
+
+// A match record of a table. Records are numbered from 1.
+#[derive(Clone, Copy)]
+pub struct Record<'a> {
+    pub table: Table<'a>,
+    pub number: usize,
+    pub ghost some: { 0 < number },
+    pub ghost there: { number ≤ get_or table.words.now 3 0 },
+}
+
+impl<'a> Record<'a> {
+    ghost use Rattle.legal.specs.Records.{number_of};
+
+    #[inline]
+    pub fn leaf(self) -> usize
+        ensures { (result ≡ (match_of (table_of self.entry.table.words.now) self.entry.number).leaf) × (result < get_or self.entry.table.words.now 2 0) }
+    {
+        self.word(0)
+    }
+
+    // The next of its chain; none: it is the last.
+    #[inline]
+    pub fn next(self) -> Option<Record<'a>>
+        ensures number { number_of result ≡ or_none 0 (match_of (table_of self.entry.table.words.now) self.entry.number).next }
+        ensures table { IfSome result (λ r. r.table ≡ self.entry.table) }
+        ensures lower { IfSome result (λ r. r.number < self.entry.number) }
+    {
+        self.table.named(self.word(1))
+    }
+
+    // Its word c: 0 for the leaf, 1 for the next.
+    #[inline]
+    fn word(self, c: usize) -> usize
+        requires { c < 2 }
+        ensures { result ≡ get_or self.entry.table.words.now (match_place (get_or self.entry.table.words.now 2 0) (get_or self.entry.table.words.now 0 0) self.entry.number c) 0 }
+    {
+        match_word(
+            self.table.words,
+            self.table.leaves(),
+            self.table.states(),
+            self.number,
+            c,
         )
     }
 }

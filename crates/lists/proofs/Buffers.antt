@@ -5,6 +5,7 @@ use mathlib.Core.List.{List, [], ◌∷◌, ◌++◌, append_assoc}
 use mathlib.Core.Logic.{◌⊎◌, inl, inr, ⊎_elim}
 use Prim.Native.Nat.{ℕ, suc, ◌+◌, ◌-◌, ◌≤◌, ◌<◌}
 use native.Mathlib.Nat.{add-zero}
+use borrow.Rule.Slice.PartMut.{put_mid}
 use native.Mathlib.Omega.{arith}
 use lib.ListN.{length, get_or, take, drop, set, length-append, length-drop, get_or-append}
 use lib.Seq.{sets, sets-eq, set_out, set_at, drop-cons, drop-drop, drop_at, take_at, ext_get_or, length-take-le, get_or-drop, get_or-append-add, get_or-set_other}
@@ -31,6 +32,15 @@ module _ {A : Type 0} where
   sets-front o t h =
       let e : 0 + length t ≡ length t = omega arith in
       sets-eq t o 0 (omega arith) ∙ ap (λ (k : ℕ). t ++ drop k o) e
+
+  -- a run copied to the part up to a place
+  pub sets-part : (o t : List A) (at to : ℕ) {part : List A} → part ≡ t → to ≡ at + length t → to ≤ length o → put_mid at (to - at) o part ≡ sets o at t
+  sets-part o t at to {part} e n h =
+      let k : at + (to - at) ≡ at + length t = omega arith in
+      (λ i. take at o ++ (e i ++ drop (to - at) (drop at o)))
+      ∙ ap (λ (x : List A). take at o ++ (t ++ x)) (drop-drop (to - at) at o ∙ ap (λ (m : ℕ). drop m o) k)
+      ∙ sym (append_assoc (take at o) t (drop (at + length t) o))
+      ∙ sym (sets-eq t o at (omega arith))
 
 -- element by element, with a default
 module _ {A : Type 0} (d : A) where

@@ -8,7 +8,7 @@ use native.Mathlib.Nat.{not-suc-le-zero, le_of_suc-le-suc, add-zero}
 use native.Mathlib.Omega.{arith}
 use borrow.Author.Tests.{eq-eqb, eqb-true}
 use lib.Dec.{eqb}
-use lib.ListN.{length, get_or, take}
+use lib.ListN.{length, get_or}
 use Rattle.lists.specs.Lists.{tab, all_l, eq_list, eq_option}
 use Rattle.lists.proofs.Bools.{Is, is, yes-is, no-is, and_both, and_intro, and-right-false}
 
@@ -60,11 +60,6 @@ module _ {A : Type 0} where
   pub all_join : (p : A → Bool) (a b : List A) → all_l p a ≡ true → all_l p b ≡ true → all_l p (a ++ b) ≡ true
   all_join p [] b h k = k
   all_join p (x ∷ a) b h k = let q = and_both (p x) (all_l p a) h in and_intro (p x) (all_l p (a ++ b)) q.0 (all_join p a b q.1 k)
-
-  pub all_take : (p : A → Bool) (i : ℕ) (l : List A) → all_l p l ≡ true → all_l p (take i l) ≡ true
-  all_take p zero l h = refl
-  all_take p (suc i) [] h = refl
-  all_take p (suc i) (x ∷ l) h = let q = and_both (p x) (all_l p l) h in and_intro (p x) (all_l p (take i l)) q.0 (all_take p i l q.1)
 
 -- ---- a test of equality
 

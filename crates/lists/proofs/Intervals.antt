@@ -5,9 +5,13 @@ use mathlib.Core.List.{List}
 use mathlib.Core.Logic.{◌⊎◌, inl, inr, ⊎_elim}
 use Prim.Native.Nat.{ℕ, zero, suc, ◌+◌, ◌≤◌, ◌<◌}
 use native.Mathlib.Omega.{arith}
-use lib.ListN.{length}
+use lib.ListN.{length, get_or}
+use mathlib.Core.Bool.{◌&&◌}
+use native.Mathlib.Numerals.{add-one}
+use Rattle.std.specs.List.{list_all, range_with_len}
 use Rattle.lists.specs.Lists.{tab, all_l, any_l, those}
-use Rattle.lists.proofs.Bools.{Is, is, yes-is, no-is, and_both, and_intro, or_cases, Order, order, less, equal, more, or-neither}
+use Rattle.lists.proofs.Bools.{Is, is, yes-is, no-is, and_both, and_intro, or_cases, Order, order, less, equal, more, or-neither, bool-ext}
+use Rattle.lists.proofs.Elements.{all-intro, all-at}
 
 -- the m numbers from s on
 abbrev pub from : ℕ → ℕ → List ℕ
@@ -33,28 +37,10 @@ module _ (p : ℕ → Bool) where
   from_all zero s f = refl
   from_all (suc m) s f = and_intro (p s) _ (f s (omega arith) (omega arith)) (from_all m (suc s) (λ i l u. f i (omega arith) (omega arith)))
 
-  -- as a loop passes them: the numbers from s on, below i
-  abbrev pub Passing : ℕ → ℕ → Type 0
-  Passing s i = (j : ℕ) → s ≤ j → j < i → p j ≡ true
-
-  pub passing-none : (s : ℕ) → Passing s s
-  passing-none s j l u = absurd (omega arith)
-
-  pub passing-more : (s i : ℕ) → Passing s i → p i ≡ true → Passing s (i + 1)
-  passing-more s i f h j l u = go (order j i)
-    where
-      go : Order j i → p j ≡ true
-      go (less k) = f j l k
-      go (equal k) = ap p k ∙ h
-      go (more k) = absurd (omega arith)
-
-  -- one that fails the test
-  pub from-fails : (m s i : ℕ) → s ≤ i → i < s + m → p i ≡ false → all_l p (from s m) ≡ false
-  from-fails m s i l u e = go (is (all_l p (from s m)))
-    where
-      go : Is (all_l p (from s m)) → all_l p (from s m) ≡ false
-      go (yes-is a) = absurd (false≢true (sym e ∙ all_from m s a i l u))
-      go (no-is a) = a
+  -- `all` over a range
+  pub all-range : (m s : ℕ) → list_all p (range_with_len s m) ≡ all_l p (from s m)
+  all-range zero s = refl
+  all-range (suc m) s = ap (λ b. p s && b) (ap (λ k. list_all p (range_with_len k m)) (add-one s) ∙ all-range m (suc s))
 
   -- a number of the interval that passes
   abbrev pub Passed : ℕ → ℕ → Type 0
@@ -125,3 +111,11 @@ module _ (p : ℕ → Bool) where
           → length (those p (from s (suc (suc m)))) ≡ length (those p (from s (suc m))) + cond (p (s + suc m)) 1 0
       go (yes-is e) h = rw (those-yes s (suc m) e, those-yes s m e, same) (omega arith)
       go (no-is e) h = rw (those-no s (suc m) e, those-no s m e, same) (omega arith)
+
+-- the elements of a list, tested place by place
+pub all-placed : {A : Type 0} (p : A → Bool) (l : List A) (d : A) (q : ℕ → Bool) (n : ℕ) → length l ≡ n → ((i : ℕ) → i < n → q i ≡ p (get_or l i d))
+    → all_l q (from 0 n) ≡ all_l p l
+all-placed p l d q n e same =
+    bool-ext _ _
+    (λ t. all-intro p l d (λ i h. sym (same i (omega arith)) ∙ all_from q n 0 t i (omega arith) (omega arith)))
+    (λ t. from_all q n 0 (λ i h u. same i (omega arith) ∙ all-at p l i d t (omega arith)))

@@ -7,6 +7,7 @@ pub mod Worklist
 pub mod Numbering
 pub mod Distinct
 pub mod Judged
+pub mod Ranges
 pub mod Tabled
 pub mod Those
 pub mod Any

@@ -1,7 +1,7 @@
 -- `==` and `!=` of numbers that may be none, as code tests them. Assumes nothing.
 use Rattle.std.specs.Prelude.{Option, Some, None, Bool, true, false, not, eqb, ℕ}
 use Rattle.std.specs.Option.{option_eq}
-use mathlib.Core.Path.{◌≡◌, refl, sym, ap, subst, ◌∙◌}
+use mathlib.Core.Path.{◌≡◌, refl, sym, subst, ◌∙◌}
 use mathlib.Core.Bool.{false≢true}
 use borrow.Author.Tests.{not-true, not-false}
 use Rattle.lists.specs.Lists.{eq_option}
@@ -22,3 +22,11 @@ options-differ a b r e t q =
 
 pub options-same : (a b : Option ℕ) (r : Bool) → r ≡ not (option_eq eqb a b) → r ≡ false → a ≡ b
 options-same a b r e f = option-sound.eq a b (sym (option-test a b) ∙ not-false _ (sym e ∙ f))
+
+-- the same where the code has asked `==`
+
+pub options-eq : (a b : Option ℕ) → true ≡ option_eq eqb a b → a ≡ b
+options-eq a b e = option-sound.eq a b (sym (option-test a b) ∙ sym e)
+
+pub options-ne : (a b : Option ℕ) → false ≡ option_eq eqb a b → a ≡ b → ⊥
+options-ne a b e q = false≢true (e ∙ option-test a b ∙ subst (λ x. eq_option a x ≡ true) q (option-sound.self a))

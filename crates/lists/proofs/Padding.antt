@@ -2,17 +2,10 @@
 -- Assumes nothing.
 use mathlib.Core.Path.{◌≡◌, refl, sym, ◌∙◌}
 use mathlib.Core.List.{List, [], ◌∷◌, ◌++◌}
-use Prim.Native.Nat.{ℕ, zero, suc, ◌+◌, ◌-◌, ◌≤◌, ◌<◌}
-use native.Mathlib.Nat.{not-suc-le-zero, le_of_suc-le-suc}
+use Prim.Native.Nat.{ℕ, zero, suc, ◌+◌, ◌-◌, ◌≤◌}
 use native.Mathlib.Omega.{arith}
 use lib.ListN.{length, get_or, replicate, length-append, length-replicate}
 use lib.Seq.{ext_get_or}
-
--- within a list the default does not matter
-pub default-any : {A : Type 0} (a b : A) (l : List A) (i : ℕ) → i < length l → get_or l i a ≡ get_or l i b
-default-any a b [] i h = absurd (not-suc-le-zero h)
-default-any a b (x ∷ l) zero h = refl
-default-any a b (x ∷ l) (suc i) h = default-any a b l i (le_of_suc-le-suc h)
 
 module _ {A : Type 0} (d : A) where
   pub replicate-at : (k i : ℕ) → get_or (replicate k d) i d ≡ d

@@ -5,7 +5,7 @@ use mathlib.Core.List.{List, [], ◌∷◌, ◌++◌}
 use Prim.Native.Nat.{ℕ, ◌+◌, ◌≤◌, ◌<◌}
 use native.Mathlib.Numerals.{add-one}
 use native.Mathlib.Omega.{arith}
-use lib.ListN.{length, get_or, set, take, replicate, length-set, length-append, length-replicate, replicate-append-replicate}
+use lib.ListN.{length, get_or, set, take, length-set, length-append}
 use lib.Seq.{sets, length-sets, take-suc, length-take-le}
 use Rattle.lists.proofs.Buffers.{sets-append}
 
@@ -14,12 +14,6 @@ use Rattle.lists.proofs.Buffers.{sets-append}
 module _ {A : Type 0} (o : List A) (at : ℕ) where
   pub sets-one : (t : List A) (x : A) (i : ℕ) → at + length t ≡ i → sets o at (t ++ (x ∷ [])) ≡ set (sets o at t) i x
   sets-one t x i e = sets-append o at t (x ∷ []) ∙ ap (λ (k : ℕ). set (sets o at t) k x) e
-
-  -- one more of one value
-  pub sets-fill : (k : ℕ) (x : A) (i : ℕ) → at + k ≡ i → set (sets o at (replicate k x)) i x ≡ sets o at (replicate (k + 1) x)
-  sets-fill k x i e =
-      let l = length-replicate k x in
-      sym (sets-one (replicate k x) x i (omega arith)) ∙ ap (sets o at) (replicate-append-replicate k 1 x)
 
   -- one more of a list
   pub sets-take : (t : List A) (k : ℕ) (d : A) (i : ℕ) → k < length t → at + k ≡ i → set (sets o at (take k t)) i (get_or t k d) ≡ sets o at (take (k + 1) t)

@@ -9,7 +9,7 @@ use native.Mathlib.Numerals.{add-one}
 use native.Mathlib.Omega.{arith}
 use borrow.Author.Tests.{eqb-true, eq-eqb}
 use lib.Dec.{eqb}
-use lib.ListN.{length, get_or, length-append}
+use lib.ListN.{length, get_or}
 use Rattle.lists.specs.Lists.{tab, below, all_l, any_l, those}
 use Rattle.lists.proofs.Bools.{Is, is, yes-is, no-is, and-true, and-false, and_both, and_intro}
 use Rattle.lists.proofs.Elements.{length-tab, get_or-tab0}
@@ -110,12 +110,6 @@ module _ (p : ℕ → Bool) (n : ℕ) where
   pub those-same : p n ≡ false → those p (below (n + 1)) ≡ those p (below n)
   those-same e =
       ap (those p) (below_last n) ∙ those-append p (below n) (n ∷ []) ∙ ap (λ (l : List ℕ). those p (below n) ++ l) (rw (e, those)) ∙ append-nil (those p (below n))
-
-  pub count-more : p n ≡ true → length (those p (below (n + 1))) ≡ length (those p (below n)) + 1
-  count-more e = ap length (those-more e) ∙ length-append (those p (below n)) (n ∷ [])
-
-  pub count_same : p n ≡ false → length (those p (below (n + 1))) ≡ length (those p (below n))
-  count_same e = ap length (those-same e)
 
 -- ---- which numbers are among them
 

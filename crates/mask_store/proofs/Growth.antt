@@ -24,10 +24,6 @@ whole c = eqb (length c) 256
 
 -- ---- classes written one after another
 
-pub length-all : (tables : List ℕ) (n : ℕ) (new : List Class) → length tables ≡ store_size → n + length new ≤ most_masks → length (written_all tables n new) ≡ store_size
-length-all tables n [] w h = w
-length-all tables n (c ∷ new) w h = length-all (written tables n c) (suc n) new (length-written tables n c w (omega arith)) (omega arith)
-
 all-before : (tables : List ℕ) (n : ℕ) (new : List Class) → length tables ≡ store_size → n + length new ≤ most_masks → (j : ℕ) → j < n
     → class_at (written_all tables n new) j ≡ class_at tables j
 all-before tables n [] w h j l = refl
@@ -68,11 +64,7 @@ module _ (s : MaskStore) (cs : List Class) (size : length s.tables ≡ store_siz
   unfolding grown
   count-is = omega (arith, ap length grows.split, length-append (held s) grows.new, length-held s)
 
-  -- the tables keep their length
-  pub grown-size : length (grown s cs).tables ≡ store_size
-  grown-size = ap length tables-are ∙ length-all s.tables s.count grows.new size fits
-
-  -- and the store holds what it held and the classes met
+  -- the store holds what it held and the classes met
   pub held_grown : held (grown s cs) ≡ held_with s cs
   held_grown =
       ext_get_or [] (held (grown s cs)) (held_with s cs)
@@ -154,16 +146,15 @@ grown-append s a b size wide room =
     let q : length (met (held s) (a ++ b)) ≡ length (met (held (grown s a)) b) = ap length (sym all-is) in
     λ i. record { tables = p i; count = q i }
 
--- ---- a store that has all of them does not change
+-- ---- a store whose count does not grow does not change, and so does one that has all of them
+
+pub grown-same : (s : MaskStore) (cs : List Class) → (grown s cs).count ≡ s.count → grown s cs ≡ s
+unfolding grown
+grown-same s cs n =
+    let d : drop s.count (held_with s cs) ≡ [] = ap (λ (k : ℕ). drop k (held_with s cs)) (sym n) ∙ lib.Seq.drop-length (held_with s cs) in
+    let p : written_all s.tables s.count (drop s.count (held_with s cs)) ≡ s.tables = ap (written_all s.tables s.count) d in
+    λ i. record { tables = p i; count = n i }
 
 pub grown-none : (s : MaskStore) (cs : List Class) → all_l (among (held s)) cs ≡ true → grown s cs ≡ s
 unfolding grown held_with
-grown-none s cs a =
-    let e : met (held s) cs ≡ held s = met_all (held s) cs a in
-    let d : drop s.count (met (held s) cs) ≡ [] = ap (drop s.count) e ∙ drop-held in
-    let p : written_all s.tables s.count (drop s.count (met (held s) cs)) ≡ s.tables = ap (written_all s.tables s.count) d in
-    let q : length (met (held s) cs) ≡ s.count = ap length e ∙ length-held s in
-    λ i. record { tables = p i; count = q i }
-  where
-    drop-held : drop s.count (held s) ≡ []
-    drop-held = ap (λ (n : ℕ). drop n (held s)) (sym (length-held s)) ∙ lib.Seq.drop-length (held s)
+grown-none s cs a = grown-same s cs (ap length (met_all (held s) cs a) ∙ length-held s)

@@ -5,8 +5,10 @@
 // it is none (docs/REFUSALS.md). What each answers is defined in specs/Masks.antt.
 #![tactic(auto)]
 
-ghost use Rattle.std.specs.Prelude.{◌≡◌, true, ◌%◌, ◌^◌, ◌<◌, ◌≤◌};
-ghost use Rattle.mask_store.specs.Masks.{allowed, refused_with, add, used_in, render};
+ghost use Rattle.std.specs.Prelude.{◌≡◌, true, false, ◌%◌, ◌^◌, ◌<◌, ◌≤◌, MatchResult};
+ghost use Rattle.refusals.specs.declared.Refusal.TheVariants.{Store};
+ghost use Rattle.mask_store.specs.Layout.{most_masks};
+ghost use Rattle.mask_store.specs.Masks.{allowed, held, number_of, add, used_in, render};
 
 use refusals::Refusal;
 
@@ -38,52 +40,83 @@ pub struct Added {
     pub store: MaskStore,
 }
 
-// ---- adding a class
+// ---- looking a class up
 
-// 15, and the store unchanged.
-fn refused(store: MaskStore) -> Added
-    ensures { result ≡ refused_with store }
-{
-    Added {
-        answer: Err(Refusal::Store),
-        store,
+// The masks of a store, at most 64, to be looked up.
+#[derive(Clone, Copy)]
+pub struct Masks<'a> {
+    pub store: &'a MaskStore,
+    pub ghost few: { store.now.count ≤ most_masks },
+}
+
+impl Masks<'_> {
+    // The number that the store has for a class, or would give it.
+    pub fn number_of(self, class: &[bool; 256]) -> usize
+        ensures value { result ≡ number_of (held self.entry.store.now) class.now }
+        ensures few { result ≤ most_masks }
+    {
+        tables::number_from(&self.store.tables, 0, self.store.count, class)
     }
 }
 
-// The class added to a store that is known to be allowed, as one is that was and has grown: what adds many classes asks once for all.
-pub fn with_class(store: MaskStore, class: [bool; 256]) -> Added
-    requires { allowed store ≡ true }
-    ensures { result ≡ add store class }
-{
-    let MaskStore { mut tables, count } = store;
-    let number = tables::number_from(&tables, 0, count, &class);
-    if number < count {
-        Added {
-            answer: Ok(number),
-            store,
+// ---- refusal 15, and adding a class
+
+// A store that is allowed, as one is that was and has grown: whoever holds one adds to it without a check.
+#[derive(Clone, Copy)]
+pub struct Allowed {
+    pub store: MaskStore,
+    pub ghost allowed: { allowed store ≡ true },
+}
+
+impl Allowed {
+    // The store, if it is allowed; else 15.
+    pub fn new(store: MaskStore) -> Result<Allowed, Refusal>
+        ensures { MatchResult result (λ held. (held.store ≡ store) × (allowed store ≡ true)) (λ refusal. (refusal ≡ Store) × (allowed store ≡ false)) }
+    {
+        if tables::allowed(&store.tables, store.count) {
+            Ok(Allowed { store })
+        } else {
+            Err(Refusal::Store)
         }
-    } else if count < MASKS {
-        tables::write_mask(&mut tables, count, &class);
-        Added {
-            answer: Ok(count),
-            store: MaskStore {
-                tables,
-                count: count + 1,
-            },
+    }
+
+    // The class added: its number; or 15, and the store unchanged.
+    pub fn add(&mut self, class: [bool; 256]) -> Result<usize, Refusal>
+        ensures answer { result ≡ (add self.old.store class).answer }
+        ensures after { self.new.store ≡ (add self.old.store class).store }
+    {
+        let number = Masks { store: &self.store }.number_of(&class);
+        let count = self.store.count;
+        if number < count {
+            Ok(number)
+        } else if count < MASKS {
+            tables::write_mask(&mut self.store.tables, count, &class);
+            self.store.count = count + 1;
+            Ok(count)
+        } else {
+            Err(Refusal::Store)
         }
-    } else {
-        refused(store)
     }
 }
 
-// The class added to any store, or 15.
+// The class added to any store, or 15: by value, on a store that is lent, and by a loan, three forms that the project keeps (docs/DECISIONS.md, 9 and 36).
 pub fn add_by_value(store: MaskStore, class: [bool; 256]) -> Added
     ensures { result ≡ add store class }
 {
-    if !tables::allowed(&store.tables, store.count) {
-        return refused(store);
+    match Allowed::new(store) {
+        Ok(allowed) => {
+            let mut held = allowed;
+            let answer = held.add(class);
+            Added {
+                answer,
+                store: held.store,
+            }
+        }
+        Err(refusal) => Added {
+            answer: Err(refusal),
+            store,
+        },
     }
-    with_class(store, class)
 }
 
 // The same on a store that is lent, and grows in the call.
@@ -130,14 +163,12 @@ fn used_in(count: usize, t: usize) -> usize
     count.saturating_sub(TABLE_MASKS * t).min(TABLE_MASKS)
 }
 
-// The eight tables, with 0 for each bit of a mask that is not held; or 15.
+// The eight tables, an array of arrays (docs/DECISIONS.md, 36), with 0 for each bit of a mask that is not held; or 15. By index, since an entry's place
+// is counted in both: in its table, and among all entries.
 pub fn render_luts(store: MaskStore) -> Result<[[u8; TABLE_SIZE]; TABLES], Refusal>
     ensures { result ≡ render store }
 {
-    let MaskStore { tables, count } = store;
-    if !tables::allowed(&tables, count) {
-        return Err(Refusal::Store);
-    }
+    let MaskStore { tables, count } = Allowed::new(store)?.store;
     let mut luts = [[0u8; TABLE_SIZE]; TABLES];
     for t in 0..TABLES {
         let used = used_in(count, t);

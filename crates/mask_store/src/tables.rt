@@ -6,7 +6,8 @@ ghost use Rattle.mask_store.specs.Masks.{mask_has, class_at, same_class, number_
 
 use crate::{MASKS, SIZE, TABLE_MASKS, TABLE_SIZE};
 
-// ---- one mask
+// ---- one mask. It stays a number with its bound: a type would be made where a loop counts it or a plan's word names it, and taken apart in each
+// function here.
 
 // Whether mask i has the byte.
 pub fn mask_has(tables: &[u8; SIZE], i: usize, byte: u8) -> bool
@@ -36,12 +37,10 @@ fn is_class(tables: &[u8; SIZE], i: usize, class: &[bool; 256]) -> bool
     requires { i < MASKS }
     ensures { result ≡ same_class class.now (class_at tables.now i) }
 {
-    for (b, &flag) in class.iter().enumerate() {
-        if mask_has(tables, i, b as u8) != flag {
-            return false;
-        }
-    }
-    true
+    class
+        .iter()
+        .enumerate()
+        .all(|(b, &flag)| mask_has(tables, i, b as u8) == flag)
 }
 
 // The class is written as mask i: 0 or 1 for each byte, and no other bit.
@@ -59,16 +58,14 @@ pub(crate) fn write_mask(tables: &mut [u8; SIZE], i: usize, class: &[bool; 256])
 // ---- all masks. Tables and count come apart here: a store from outside may count anything, and a plan's words name masks of the tables alone.
 
 // The first of masks `from`, .., `count` - 1 that is this class, or `count`: the number that a store of so many gives the class, also a new one.
+// No option, since `Masks::number_of` would take it apart to this number.
 pub fn number_from(tables: &[u8; SIZE], from: usize, count: usize, class: &[bool; 256]) -> usize
     requires { (from ≤ count) × (count ≤ MASKS) }
     ensures { result ≡ from + number_of (tab from (count - from) (class_at tables.now)) class.now }
 {
-    for i in from..count {
-        if is_class(tables, i, class) {
-            return i;
-        }
-    }
-    count
+    (from..count)
+        .find(|&i| is_class(tables, i, class))
+        .unwrap_or(count)
 }
 
 // Whether 15 allows the store: it counts at most 64 classes, and none stands twice. At most 2,016 pairs of masks are compared, each up to its first
@@ -76,14 +73,6 @@ pub fn number_from(tables: &[u8; SIZE], from: usize, count: usize, class: &[bool
 pub fn allowed(tables: &[u8; SIZE], count: usize) -> bool
     ensures { result ≡ allowed (store_of tables.now count) }
 {
-    if count > MASKS {
-        return false;
-    }
-    for i in 0..count {
-        let class = class_at(tables, i);
-        if number_from(tables, i + 1, count, &class) < count {
-            return false;
-        }
-    }
-    true
+    count <= MASKS
+        && (0..count).all(|i| number_from(tables, i + 1, count, &class_at(tables, i)) == count)
 }

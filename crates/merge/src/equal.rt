@@ -17,10 +17,5 @@ pub(crate) fn equal(graph: Graph<'_>, e: usize, s: usize) -> bool
     if graph.early(e) != graph.early(s) {
         return false;
     }
-    for c in 0..STEPS {
-        if graph.target(e, c) != graph.target(s, c) {
-            return false;
-        }
-    }
-    true
+    (0..STEPS).all(|c| graph.target(e, c) == graph.target(s, c))
 }

@@ -14,7 +14,8 @@ use words::graph::Graph;
 
 mod equal;
 
-// The lowest state that equals state s. `stay` tells which states before s equal none before them.
+// The lowest state that equals state s. `stay` tells which states before s equal none before them. (A loop, and no `find`: that a state which does not
+// stay differs from s too is known from those before it, so it goes along from turn to turn.)
 fn first_equal(graph: Graph<'_>, stay: &[bool; STATES], s: usize) -> usize
     requires s_bound { s < get_or graph.words.now 0 0 }
     requires by_index { (e : ℕ) → e < s → get_or stay.now e false ≡ false → (f : ℕ) × (f < e) × (state_of (graph_from graph.words.now) f ≡ state_of (graph_from graph.words.now) e) }
@@ -64,7 +65,8 @@ pub fn merge(graph: &mut [u16])
     ensures graph_after { graph.new ≡ rewritten (λ g. (merged g).graph) graph.old }
     ensures graph_after_2 { graph_fits graph.new ≡ true }
 {
-    // Rule 8's rounds (docs/DECISIONS.md, 36): a loop that ends by break, as the round that merges nothing does.
+    // How many rounds there are is known only from the last, which merges nothing: so no range counts them. `while merge_round(graph) {}` would be no
+    // plainer, with its work in the test and an empty body.
     loop {
         if !merge_round(graph) {
             break;

@@ -5,7 +5,7 @@ use mathlib.Core.Bool.{Bool, ◌&&◌, ◌||◌}
 use mathlib.Core.List.{List}
 use Prim.Native.Nat.{ℕ, ◌+◌, ◌<◌}
 use native.Mathlib.Omega.{arith}
-use lib.ListN.{length, get_or, set, replicate, length-set, length-replicate}
+use lib.ListN.{length, get_or, set, length-set}
 use lib.Seq.{get_or-set_same, get_or-set_other}
 use Rattle.lists.proofs.Bools.{or-false, Order, order, less, equal, more}
 use Rattle.trees.specs.Layout.{number_count}
@@ -27,14 +27,6 @@ pub record Noted (tree : Tree) (notes : List Note) (i : ℕ) : Type 0 where
   pub long : length notes ≡ number_count
   pub dots : (j : ℕ) → 0 < j → j < i → (get_or notes j no_note).dot ≡ is_dot (tree_at tree.words.now tree.bytes.now j)
   pub chains : (j : ℕ) → 0 < j → j < i → (get_or notes j no_note).found ≡ some_greedy (chain_at tree.words.now tree.bytes.now j)
-
-pub noted-starts : (tree : Tree) → Noted tree (replicate number_count no_note) 1
-noted-starts tree =
-    record {
-      long = length-replicate {A = Note} number_count no_note;
-      dots = λ j l u. absurd (omega arith);
-      chains = λ j l u. absurd (omega arith);
-    }
 
 -- ---- one record, by the notes of those below it
 

@@ -40,7 +40,8 @@ pub(crate) fn record_value(node: Node<'_>, widths: &Widths) -> Option<u32>
     }
 }
 
-// The sum over a chain, which is walked by its links: an iterator would be a struct and an impl for two loops.
+// The sum over a chain, which is walked by its links: an iterator would be a struct and an impl for two loops. (Two walks: a sum begins with 0 and may
+// pass 32 bits at each part, a least begins with the first part.)
 #[cycle(chain_least_chain_sum_record_value)]
 fn chain_sum(first: Option<Node<'_>>, widths: &Widths) -> Option<u32>
     ensures { result ≡ priced_sum (chain_of_first first.entry) }

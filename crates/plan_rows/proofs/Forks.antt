@@ -1,5 +1,5 @@
 -- The targets of a state, met in ascending order: how many, and the two lowest. Assumes nothing.
-use Rattle.std.proofs.Common.{◌≡◌, refl, sym, ap, subst, ◌∙◌, Bool, true, false, cond, List, [], ◌∷◌, ◌++◌, ◌⊎◌, inl, inr, ℕ, ◌+◌, ◌≤◌, ◌<◌, arith, ltb-true, lt-ltb, le-ltb, eqb, ltb, length, get_or, set, length-append, Option, Some, None, IfSome, slice_get}
+use Rattle.std.proofs.Common.{◌≡◌, refl, sym, ap, subst, ◌∙◌, Bool, true, false, List, [], ◌∷◌, ◌++◌, ◌⊎◌, inl, inr, ℕ, ◌+◌, ◌≤◌, ◌<◌, arith, ltb-true, lt-ltb, eqb, ltb, length, get_or, set, length-append, Option, Some, None, IfSome, slice_get}
 use Rattle.std.proofs.lemmas.Option.{slice_get_past, slice_get-get_or}
 use Rattle.lists.specs.Lists.{below, any_l, all_l, those}
 use Rattle.lists.proofs.Bools.{lt-or-le}
@@ -10,7 +10,6 @@ use Rattle.graph_rules.proofs.Flat.{from-length}
 use Rattle.edges.specs.Edges.{leads_to, targets}
 use Rattle.edges.proofs.ByTarget.{target-leads}
 use Rattle.plan_rules.specs.Plan.{base, by_table}
-use Rattle.plan_rows.specs.declared.fork.Edges.TheVariants.{ByTable, Each}
 use Rattle.plan_rows.specs.declared.fork.Fork.{Fork}
 use Rattle.plan_rows.specs.Fork.{fork_in, fork_of}
 
@@ -36,9 +35,6 @@ pub record Forking (p : ℕ → Bool) (count : ℕ) (lowest : List (Option ℕ))
   pub few : count ≤ u
   pub count-is : count ≡ length (those p (below u))
   pub lowest-are : lowest ≡ lowest_of (those p (below u))
-
-pub forking-none : (p : ℕ → Bool) → Forking p 0 (None ∷ None ∷ []) 0
-forking-none p = record { few = omega arith; count-is = refl; lowest-are = refl }
 
 module _ {p : ℕ → Bool} {count : ℕ} {lowest : List (Option ℕ)} {u : ℕ} (f : Forking p count lowest u) where
   module _ (e : p u ≡ true) where
@@ -106,17 +102,9 @@ module _ (w : List ℕ) (s u : ℕ) {own : Bool} {count : ℕ} {lowest : List (O
   unfolding targets
   lowest-all = f.lowest-are ∙ ap (λ (m : ℕ). lowest_of (those (leads_to st) (below m))) met-all
 
-  pub forked-table : 2 < count → record { own = own; edges = ByTable } ≡ fork_of (graph_from w) s
-  unfolding fork_of fork_in by_table
-  forked-table m =
-      let b : ltb 2 (length (targets n st)) ≡ true = lt-ltb 2 (length (targets n st)) (omega (arith, count-all)) in
-      rw b (λ i. record { own = own-is i; edges = ByTable })
-
-  pub forked-each : (2 < count → ⊥) → record { own = own; edges = Each lowest } ≡ fork_of (graph_from w) s
-  unfolding fork_of fork_in by_table
-  forked-each m =
-      let b : ltb 2 (length (targets n st)) ≡ false = le-ltb 2 (length (targets n st)) (omega (arith, count-all, m)) in
-      rw b (λ i. record { own = own-is i; edges = Each (lowest-all i) })
+  pub forked : record { own = own; count = count; lowest = lowest } ≡ fork_of (graph_from w) s
+  unfolding fork_of fork_in
+  forked = λ i. record { own = own-is i; count = count-all i; lowest = lowest-all i }
 
 -- ---- what the fork of a state says
 
@@ -128,28 +116,21 @@ module _ (g : Graph) (s : ℕ) {f : Fork} (is-fork : f ≡ fork_of g s) where
   unfolding fork_of fork_in
   fork-own = ap (λ (x : Fork). x.own) is-fork
 
-  fork-edges : f.edges ≡ cond (by_table base ts) ByTable (Each (lowest_of ts))
+  pub fork-table : {b : Bool} → ltb base.edges f.count ≡ b → by_table base ts ≡ b
+  unfolding fork_of fork_in by_table
+  fork-table e = sym (ap (λ (x : Fork). ltb base.edges x.count) is-fork) ∙ e
+
+  pub fork-lowest : f.lowest ≡ lowest_of ts
   unfolding fork_of fork_in
-  fork-edges = ap (λ (x : Fork). x.edges) is-fork
-
-  pub fork-table : f.edges ≡ ByTable → by_table base ts ≡ true
-  fork-table h = go (by_table base ts) (sym h ∙ fork-edges)
-    where
-      go : (b : Bool) → ByTable ≡ cond b ByTable (Each (lowest_of ts)) → b ≡ true
-      go true e = refl
-      go false e = cc
-
-  pub fork-each : {l : List (Option ℕ)} → f.edges ≡ Each l → (by_table base ts ≡ false) × (l ≡ lowest_of ts)
-  fork-each {l} h = go (by_table base ts) (sym h ∙ fork-edges)
-    where
-      go : (b : Bool) → Each l ≡ cond b ByTable (Each (lowest_of ts)) → (b ≡ false) × (l ≡ lowest_of ts)
-      go true e = cc
-      go false e = (refl, cc)
+  fork-lowest = ap (λ (x : Fork). x.lowest) is-fork
 
   -- they lead to states
-  module _ {l : List (Option ℕ)} (h : f.edges ≡ Each l) {n : ℕ} (m : length g.states ≡ n) where
-    pub low_below : IfSome (get_or l 0 None) (λ u. u < n)
-    low_below = subst (λ (x : Option ℕ). IfSome x (λ u. u < n)) (ap (λ (x : List (Option ℕ)). get_or x 0 None) (sym ((fork-each h).1))) (subst (λ (k : ℕ). IfSome (slice_get ts 0) (λ u. u < k)) m (target_below (length g.states) (state_of g s) 0))
+  module _ {n : ℕ} (m : length g.states ≡ n) where
+    within : (j : ℕ) → get_or f.lowest j None ≡ slice_get ts j → IfSome (get_or f.lowest j None) (λ u. u < n)
+    within j e = rw e (subst (λ (k : ℕ). IfSome (slice_get ts j) (λ u. u < k)) m (target_below (length g.states) (state_of g s) j))
 
-    pub high-below : IfSome (get_or l 1 None) (λ u. u < n)
-    high-below = subst (λ (x : Option ℕ). IfSome x (λ u. u < n)) (ap (λ (x : List (Option ℕ)). get_or x 1 None) (sym ((fork-each h).1))) (subst (λ (k : ℕ). IfSome (slice_get ts 1) (λ u. u < k)) m (target_below (length g.states) (state_of g s) 1))
+    pub low_below : IfSome (get_or f.lowest 0 None) (λ u. u < n)
+    low_below = within 0 (ap (λ (x : List (Option ℕ)). get_or x 0 None) fork-lowest)
+
+    pub high-below : IfSome (get_or f.lowest 1 None) (λ u. u < n)
+    high-below = within 1 (ap (λ (x : List (Option ℕ)). get_or x 1 None) fork-lowest)

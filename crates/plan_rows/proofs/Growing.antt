@@ -13,12 +13,12 @@ use Rattle.mask_store.specs.Masks.{held, number_of, grown, allowed, takes, held_
 use Rattle.mask_store.proofs.MaskLaws.{length-held}
 use Rattle.mask_store.proofs.Search.{allowed-count}
 use Rattle.mask_store.proofs.Growth.{whole, grown-none, grown-append}
-use Rattle.mask_store.proofs.Several.{takes-few, takes_front, takes-allowed, takes-rest}
+use Rattle.mask_store.proofs.Several.{takes-few, takes_front, takes-rest}
 use Rattle.plan_rows.specs.Needs.{grown_by}
 
 -- ---- what a `?` hands on
 
-pub passed-on : (r : Result MaskStore Refusal) {x : Refusal} → IsErrAnd r (λ y. y ≡ x) → r ≡ Err x
+pub passed-on : {A : Type 0} (r : Result A Refusal) {x : Refusal} → IsErrAnd r (λ y. y ≡ x) → r ≡ Err x
 passed-on r h = let p = err_from_is_err_and r h in p.1 ∙ ap (λ y. Err y) p.2
 
 -- ---- taken, or refused
@@ -82,28 +82,23 @@ module _ (store : MaskStore) (c : Class) where
   unfolding add
   add-refused t = rw t
 
-  module _ {r : Added} (e : r ≡ add store c) where
-    pub by_number : {i : ℕ} → r.answer ≡ Ok i → Ok r.store ≡ grown_by store (c ∷ [])
-    by_number {i} n = go (is (takes store (c ∷ [])))
-      where
-        go : Is (takes store (c ∷ [])) → Ok r.store ≡ grown_by store (c ∷ [])
-        go (yes-is t) = ap (λ (x : Added). Ok x.store) (e ∙ add-taken t) ∙ sym (by-taken store (c ∷ []) t)
-        go (no-is t) = cc (add-refused t)
+  pub by_number : {i : ℕ} → (add store c).answer ≡ Ok i → grown_by store (c ∷ []) ≡ Ok (add store c).store
+  by_number {i} n = go (is (takes store (c ∷ [])))
+    where
+      go : Is (takes store (c ∷ [])) → grown_by store (c ∷ []) ≡ Ok (add store c).store
+      go (yes-is t) = by-taken store (c ∷ []) t ∙ ap (λ (x : Added). Ok x.store) (sym (add-taken t))
+      go (no-is t) = cc (add-refused t)
 
-    pub by-refusal : {x : Refusal} → r.answer ≡ Err x → Err x ≡ grown_by store (c ∷ [])
-    by-refusal {x} n = go (is (takes store (c ∷ [])))
-      where
-        go : Is (takes store (c ∷ [])) → Err x ≡ grown_by store (c ∷ [])
-        go (yes-is t) = cc (add-taken t)
-        go (no-is t) = cc (add-refused t, by-refused store (c ∷ []) t)
+  pub by-refusal : {x : Refusal} → (add store c).answer ≡ Err x → grown_by store (c ∷ []) ≡ Err x
+  by-refusal {x} n = go (is (takes store (c ∷ [])))
+    where
+      go : Is (takes store (c ∷ [])) → grown_by store (c ∷ []) ≡ Err x
+      go (yes-is t) = cc (add-taken t)
+      go (no-is t) = cc (add-refused t, by-refused store (c ∷ []) t)
 
 -- ---- by more classes, after some
 
 module _ (store : MaskStore) (a : List Class) (size : length store.tables ≡ store_size) (wide : all_l whole a ≡ true) {now : MaskStore} (e : grown_by store a ≡ Ok now) where
-  -- a store that has grown is one that is added to without a check
-  pub grown-allows : allowed now ≡ true
-  grown-allows = ap allowed (store-grown store a e) ∙ takes-allowed store a size wide (was-taken store a e)
-
   pub grown-more : (b : List Class) → grown_by now b ≡ grown_by store (a ++ b)
   unfolding grown_by
   grown-more b =

@@ -1,27 +1,14 @@
 -- The plan's words of a state, by how its edges are tested: one law for each way through the code. Assumes nothing.
-use Rattle.std.proofs.Common.{◌≡◌, refl, sym, ap, ◌∙◌, Bool, true, false, cond, List, [], ◌∷◌, ℕ, suc, ◌+◌, ◌≤◌, arith, ltb-false, length, get_or, Option, Some, None, slice_get}
+use Rattle.std.proofs.Common.{◌≡◌, refl, sym, ap, ◌∙◌, Bool, true, false, cond, List, [], ◌∷◌, ℕ, suc, arith, ltb, ltb-false, length, get_or, Option, Some, None, slice_get}
 use Rattle.graph_rules.specs.Graph.{State, Graph, state_of}
 use Rattle.classes.specs.Classes.{Class}
 use Rattle.edges.specs.Edges.{class_to, targets}
-use Rattle.mask_store.specs.Masks.{store_of, held, number_of}
-use Rattle.mask_store.proofs.Numbers.{number-most}
-use Rattle.mask_store.proofs.MaskLaws.{length-held}
-use Rattle.mask_store.proofs.Search.{masks, search-all}
+use Rattle.mask_store.specs.Masks.{number_of}
 use Rattle.plan_rules.specs.Plan.{base, by_table, table_word, own_code, self_word, edge_words, plan_row}
-use Rattle.plan_rows.specs.declared.fork.Edges.TheVariants.{ByTable, Each}
 use Rattle.plan_rows.specs.declared.fork.Fork.{Fork}
 use Rattle.plan_rows.specs.Fork.{fork_of}
 use Rattle.plan_rows.specs.Rows.{target_word}
-use Rattle.plan_rows.proofs.Forks.{fork-own, fork-table, fork-each}
-
--- ---- the number that a search of all masks of a store answers
-
-module _ (tables : List ℕ) (count : ℕ) {x : ℕ} {c d : Class} (same : c ≡ d) (found : x ≡ 0 + number_of (masks tables 0 count) c) where
-  pub found_number : x ≡ number_of (held (store_of tables count)) d
-  found_number = found ∙ search-all (store_of tables count) c ∙ ap (number_of (held (store_of tables count))) same
-
-  pub found-few : x ≤ count
-  found-few = omega (arith, found_number, number-most (held (store_of tables count)) d, length-held (store_of tables count))
+use Rattle.plan_rows.proofs.Forks.{fork-own, fork-table, fork-lowest}
 
 -- ---- the words of the edges
 
@@ -59,13 +46,12 @@ module _ (all : List Class) (g : Graph) (s : ℕ) where
     unfolding plan_row
     row_of l e = let o = own-word in let e' : l ≡ edge_words base all st s ts = sym e in cc
 
-    pub row-table : f.edges ≡ ByTable → own ∷ table_word ∷ table_word ∷ [] ≡ plan_row base all g s
+    pub row-table : ltb base.edges f.count ≡ true → own ∷ table_word ∷ table_word ∷ [] ≡ plan_row base all g s
     row-table h = row_of (table_word ∷ table_word ∷ []) (words-table all st s ts (fork-table g s is-fork h))
 
-    pub row-each : {l : List (Option ℕ)} → f.edges ≡ Each l → {low high : ℕ} → low ≡ target_word all st s (get_or l 0 None) → high ≡ target_word all st s (get_or l 1 None) → own ∷ low ∷ high ∷ [] ≡ plan_row base all g s
-    row-each {l} h {low} {high} is-low is-high =
-        let (b, e) = fork-each g s is-fork h in
+    pub row-each : ltb base.edges f.count ≡ false → {low high : ℕ} → low ≡ target_word all st s (get_or f.lowest 0 None) → high ≡ target_word all st s (get_or f.lowest 1 None) → own ∷ low ∷ high ∷ [] ≡ plan_row base all g s
+    row-each h {low} {high} is-low is-high =
         row_of (low ∷ high ∷ [])
-        (words-each all st s ts b
-        ∙ ap (λ (x : List (Option ℕ)). target_word all st s (get_or x 0 None) ∷ target_word all st s (get_or x 1 None) ∷ []) (sym e)
+        (words-each all st s ts (fork-table g s is-fork h)
+        ∙ ap (λ (x : List (Option ℕ)). target_word all st s (get_or x 0 None) ∷ target_word all st s (get_or x 1 None) ∷ []) (sym (fork-lowest g s is-fork))
         ∙ (λ i. sym is-low i ∷ sym is-high i ∷ []))

@@ -1,33 +1,22 @@
 -- Rows of a plan, one after another: a buffer that is filled row by row, and a list that is compared with them. Assumes nothing.
-use mathlib.Core.Path.{◌≡◌, sym, ap, transport, ◌∙◌}
-use mathlib.Core.Bool.{true, false, false≢true}
+use native.Mathlib.Numerals.{add-one}
+use mathlib.Core.Path.{◌≡◌, refl, subst, sym, ap, transport, ◌∙◌}
+use mathlib.Core.Bool.{true}
 use mathlib.Core.List.{List, [], ◌++◌, flat_map, append_assoc, append-nil}
 use Prim.Native.Nat.{ℕ, zero, suc, ◌+◌, ◌*◌, ◌-◌, ◌≤◌, ◌<◌}
 use native.Mathlib.Omega.{arith}
 use lib.Dec.{eqb}
 use lib.ListN.{length, take, drop}
-use lib.Seq.{sets, sets-eq, drop-drop, drop_at, take_at, take-add, take-take}
+use lib.Seq.{sets, drop_at, take_at, take-add, take-take}
 use Rattle.lists.specs.Lists.{below, eq_list}
-use Rattle.lists.proofs.Bools.{Is, is, yes-is, no-is}
+use Rattle.lists.proofs.Bools.{is}
+use Rattle.lists.proofs.Judged.{Judged}
 use Rattle.lists.proofs.Buffers.{Filled, filled-run}
 use Rattle.lists.proofs.Elements.{eqb-sound, list-sound, length-tab}
 use Rattle.lists.proofs.Members.{flat_map-one}
 use Rattle.lists.proofs.Those.{below_last}
 use Rattle.lists.proofs.Flattened.{length-flat}
-use borrow.Rule.Slice.PartMut.{put_mid}
 use Rattle.plan_rules.specs.Plan.{base, row_size, own_place}
-
--- ---- one row
-
--- its words are copied to their place
-pub row-put : (l row : List ℕ) (s : ℕ) {part : List ℕ} → part ≡ row → length row ≡ 3 → own_place base s + row_size base ≤ length l
-    → put_mid (3 * s) (3 * s + 3 - 3 * s) l part ≡ sets l (own_place base s) row
-row-put l row s {part} e n h =
-    let k : 3 * s + (3 * s + 3 - 3 * s) ≡ own_place base s + length row = omega arith in
-    (λ i. take (3 * s) l ++ (e i ++ drop (3 * s + 3 - 3 * s) (drop (3 * s) l)))
-    ∙ ap (λ (x : List ℕ). take (3 * s) l ++ (row ++ x)) (drop-drop (3 * s + 3 - 3 * s) (3 * s) l ∙ ap (λ (m : ℕ). drop m l) k)
-    ∙ sym (append_assoc (take (3 * s) l) row (drop (own_place base s + length row) l))
-    ∙ sym (sets-eq row l (own_place base s) (omega arith))
 
 -- ---- rows that a function gives
 
@@ -97,28 +86,34 @@ module _ (f : ℕ → List ℕ) (wide : (s : ℕ) → length (f s) ≡ row_size 
         ∙ ap (take (own_place base k)) (all ∙ ap (rows_to f) m ∙ e)
         ∙ take_at (rows_to f k) rest (own_place base k) (rows-length k)
 
-    -- a row that differs is one of all
-    pub agrees-not : (s n : ℕ) → s < n → eq_list eqb (take (row_size base) (drop (own_place base s) plan)) (f s) ≡ false → eq_list eqb (take (n * row_size base) plan) (rows_to f n) ≡ false
-    agrees-not s n h e = go (is (eq_list eqb (take (n * row_size base) plan) (rows_to f n)))
-      where
-        row : List ℕ
-        row = take (row_size base) (drop (own_place base s) plan)
+    -- a row is there
+    abbrev pub Same : ℕ → Type 0
+    Same s = eq_list eqb (take (row_size base) (drop (own_place base s) plan)) (f s) ≡ true
 
-        same : take (n * row_size base) plan ≡ rows_to f n → row ≡ f s
-        same all =
-            let k : own_place base s + row_size base ≡ own_place base (s + 1) = omega arith in
-            let both : rows_to f s ++ row ≡ rows_to f s ++ f s =
-            ap (λ (l : List ℕ). l ++ row) (sym (front s n (omega arith) all))
-            ∙ sym (take-add (own_place base s) (row_size base) plan)
-            ∙ ap (λ (m : ℕ). take m plan) k
-            ∙ front (s + 1) n (omega arith) all
-            ∙ rows_more f s
-            in
-            sym (drop_at (rows_to f s) row (own_place base s) (rows-length s)) ∙ ap (drop (own_place base s)) both ∙ drop_at (rows_to f s) (f s) (own_place base s) (rows-length s)
+    -- one after another, as far as they are there
+    rows-agree : (k : ℕ) → ((s : ℕ) → s < k → Same s) → Agrees k
+    unfolding flat_map
+    rows-agree zero a = refl
+    rows-agree (suc k) a = subst Agrees (add-one k) (agrees-more k (rows-agree k (λ s h. a s (omega arith))) (a k (omega arith)))
 
-        go : Is (eq_list eqb (take (n * row_size base) plan) (rows_to f n)) → eq_list eqb (take (n * row_size base) plan) (rows_to f n) ≡ false
-        go (no-is q) = q
-        go (yes-is q) =
-            let all : take (n * row_size base) plan ≡ rows_to f n = (list-sound eqb eqb-sound).eq (take (n * row_size base) plan) (rows_to f n) q in
-            let self : eq_list eqb row (f s) ≡ true = ap (λ (l : List ℕ). eq_list eqb l (f s)) (same all) ∙ (list-sound eqb eqb-sound).self (f s) in
-            absurd (false≢true (sym e ∙ self))
+    row-there : (s n : ℕ) → s < n → take (n * row_size base) plan ≡ rows_to f n → take (row_size base) (drop (own_place base s) plan) ≡ f s
+    row-there s n h all =
+        let row = take (row_size base) (drop (own_place base s) plan) in
+        let k : own_place base s + row_size base ≡ own_place base (s + 1) = omega arith in
+        let both : rows_to f s ++ row ≡ rows_to f s ++ f s =
+        ap (λ (l : List ℕ). l ++ row) (sym (front s n (omega arith) all))
+        ∙ sym (take-add (own_place base s) (row_size base) plan)
+        ∙ ap (λ (m : ℕ). take m plan) k
+        ∙ front (s + 1) n (omega arith) all
+        ∙ rows_more f s
+        in
+        sym (drop_at (rows_to f s) row (own_place base s) (rows-length s)) ∙ ap (drop (own_place base s)) both ∙ drop_at (rows_to f s) (f s) (own_place base s) (rows-length s)
+
+    pub rows-judged : {n k : ℕ} → n ≡ k → Judged (eq_list eqb (take (k * row_size base) plan) (rows_to f k)) n Same
+    rows-judged {n} {k} e =
+        record {
+          all = λ a. agrees-all n k (rows-agree n a) e;
+          each = λ q s h.
+              let there = row-there s k (omega arith) ((list-sound eqb eqb-sound).eq (take (k * row_size base) plan) (rows_to f k) q) in
+              ap (λ (l : List ℕ). eq_list eqb l (f s)) there ∙ (list-sound eqb eqb-sound).self (f s);
+        }

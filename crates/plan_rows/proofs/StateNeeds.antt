@@ -1,5 +1,5 @@
 -- The classes that a state needs, by how its edges are tested, and those of one state after another, added to a store. Assumes nothing.
-use Rattle.std.proofs.Common.{◌≡◌, refl, sym, ap, ◌∙◌, Bool, true, false, cond, List, [], ◌∷◌, ◌++◌, append_assoc, ℕ, ◌+◌, ◌-◌, ◌<◌, arith, ltb-false, length, get_or, Option, Some, None, Result, Ok, Err, slice_get}
+use Rattle.std.proofs.Common.{◌≡◌, refl, sym, ap, ◌∙◌, Bool, true, false, cond, List, [], ◌∷◌, ◌++◌, append_assoc, ℕ, ◌+◌, ◌-◌, ◌<◌, arith, ltb, ltb-false, length, get_or, Option, Some, None, Result, Ok, Err, slice_get}
 use mathlib.Core.List.{flat_map, append-nil}
 use Rattle.lists.specs.Lists.{all_l}
 use Rattle.lists.proofs.Flattened.{append-all}
@@ -17,12 +17,11 @@ use Rattle.mask_store.proofs.Growth.{whole}
 use Rattle.plan_rules.proofs.OwnStore.{whole_below, own-whole, masked-whole}
 use Rattle.plan_rules.specs.Plan.{base, by_table, way_to, self_needs, edge_needs, state_needs, needs}
 use Rattle.plan_rows.specs.Needs.{grown_by, edge_need}
-use Rattle.plan_rows.specs.declared.fork.Edges.TheVariants.{ByTable, Each}
 use Rattle.plan_rows.specs.declared.fork.Fork.{Fork}
 use Rattle.plan_rows.specs.Fork.{fork_of}
-use Rattle.plan_rows.proofs.Forks.{fork-own, fork-table, fork-each}
+use Rattle.plan_rows.proofs.Forks.{fork-own, fork-table, fork-lowest}
 use Rattle.plan_rows.proofs.Rowwise.{rows_to, rows_more, rows-front}
-use Rattle.plan_rows.proofs.Growing.{by-none, grown-stops, grown-allows, grown-more}
+use Rattle.plan_rows.proofs.Growing.{by-none, grown-stops, grown-more}
 
 -- ---- the classes of one state, by how its edges are tested
 
@@ -57,24 +56,22 @@ module _ (g : Graph) (s : ℕ) {f : Fork} (is-fork : f ≡ fork_of g s) where
   unfolding state_needs self_needs
   state-own = ap (λ (b : Bool). cond b (class_to st s ∷ []) [] ++ edge_needs base st s ts) (fork-own g s is-fork)
 
-  pub state-table : f.edges ≡ ByTable → own_need ≡ state_needs base g s
+  pub state-table : ltb base.edges f.count ≡ true → own_need ≡ state_needs base g s
   state-table h =
       sym (append-nil own_need) ∙ ap (λ (l : List Class). own_need ++ l) (sym (edges-table st s ts (fork-table g s is-fork h))) ∙ state-own
 
-  module _ {l : List (Option ℕ)} (h : f.edges ≡ Each l) where
-    abbrev pub low_need : List Class
-    low_need = edge_need st s (get_or l 0 None)
+  abbrev pub low_need : List Class
+  low_need = edge_need st s (get_or f.lowest 0 None)
 
-    abbrev pub high_need : List Class
-    high_need = edge_need st s (get_or l 1 None)
+  abbrev pub high_need : List Class
+  high_need = edge_need st s (get_or f.lowest 1 None)
 
-    pub state-each : (own_need ++ low_need) ++ high_need ≡ state_needs base g s
-    state-each =
-        let (b, e) = fork-each g s is-fork h in
-        append_assoc own_need low_need high_need
-        ∙ ap (λ (x : List (Option ℕ)). own_need ++ (edge_need st s (get_or x 0 None) ++ edge_need st s (get_or x 1 None))) e
-        ∙ ap (λ (x : List Class). own_need ++ x) (sym (edges-each st s ts b))
-        ∙ state-own
+  pub state-each : ltb base.edges f.count ≡ false → (own_need ++ low_need) ++ high_need ≡ state_needs base g s
+  state-each h =
+      append_assoc own_need low_need high_need
+      ∙ ap (λ (x : List (Option ℕ)). own_need ++ (edge_need st s (get_or x 0 None) ++ edge_need st s (get_or x 1 None))) (fork-lowest g s is-fork)
+      ∙ ap (λ (x : List Class). own_need ++ x) (sym (edges-each st s ts (fork-table g s is-fork h)))
+      ∙ state-own
 
 -- ---- and added to a store: of the self edge, then of the edges, if these are tested one by one
 
@@ -91,42 +88,40 @@ module _ (w : List ℕ) (fits : graph_fits w ≡ true) (store : MaskStore) (size
   own-wide : all_l whole own ≡ true
   own-wide = own-whole base from width s f.own
 
-  module _ {r : Result MaskStore Refusal} (e : r ≡ grown_by store own) where
-    pub own-stops : {x : Refusal} → r ≡ Err x → Err x ≡ grown_by store (state_needs base (graph_from w) s)
-    own-stops t =
-        let n = length (graph_from w).states in
-        grown-stops store own (edge_needs base from s (targets n from)) (sym e ∙ t) ∙ ap (grown_by store) (state-own (graph_from w) s is-fork)
+  -- of the self edge, if there is one
+  pub own-added : f.own ≡ true → {c : Class} → c ≡ class_to from s → {r : Result MaskStore Refusal} → r ≡ grown_by store (c ∷ []) → r ≡ grown_by store own
+  own-added o e g = rw (o, ← e) g
 
-    module _ {by-own : MaskStore} (t : r ≡ Ok by-own) where
-      pub own-done : f.edges ≡ ByTable → Ok by-own ≡ grown_by store (state_needs base (graph_from w) s)
-      own-done k = sym t ∙ e ∙ ap (grown_by store) (state-table (graph_from w) s is-fork k)
+  pub own-absent : f.own ≡ false → allowed store ≡ true → grown_by store own ≡ Ok store
+  own-absent o a = rw o (sym (by-none store a))
 
-      pub own-allows : allowed by-own ≡ true
-      own-allows = grown-allows store own size own-wide (sym e ∙ t)
+  pub own-stops : {x : Refusal} → grown_by store own ≡ Err x → Err x ≡ grown_by store (state_needs base (graph_from w) s)
+  own-stops t =
+      let n = length (graph_from w).states in
+      grown-stops store own (edge_needs base from s (targets n from)) t ∙ ap (grown_by store) (state-own (graph_from w) s is-fork)
 
-      module _ {l : List (Option ℕ)} (k : f.edges ≡ Each l) {r' : Result MaskStore Refusal} (e' : r' ≡ grown_by by-own (edge_need from s (get_or l 0 None))) where
-        abbrev low : List Class
-        low = low_need (graph_from w) s is-fork k
+  module _ {by-own : MaskStore} (t : grown_by store own ≡ Ok by-own) where
+    pub own-done : ltb base.edges f.count ≡ true → Ok by-own ≡ grown_by store (state_needs base (graph_from w) s)
+    own-done k = sym t ∙ ap (grown_by store) (state-table (graph_from w) s is-fork k)
 
-        abbrev high : List Class
-        high = high_need (graph_from w) s is-fork k
+    module _ (k : ltb base.edges f.count ≡ false) where
+      abbrev low : List Class
+      low = low_need (graph_from w) s is-fork
 
-        both-wide : all_l whole (own ++ low) ≡ true
-        both-wide = append-all whole own low own-wide (edge-whole from s width (get_or l 0 None))
+      abbrev high : List Class
+      high = high_need (graph_from w) s is-fork
 
-        both : r' ≡ grown_by store (own ++ low)
-        both = e' ∙ grown-more store own size own-wide (sym e ∙ t) low
+      both-wide : all_l whole (own ++ low) ≡ true
+      both-wide = append-all whole own low own-wide (edge-whole from s width (get_or f.lowest 0 None))
 
-        pub low-stops : {x : Refusal} → r' ≡ Err x → Err x ≡ grown_by store (state_needs base (graph_from w) s)
-        low-stops q = grown-stops store (own ++ low) high (sym both ∙ q) ∙ ap (grown_by store) (state-each (graph_from w) s is-fork k)
+      both : grown_by by-own low ≡ grown_by store (own ++ low)
+      both = grown-more store own size own-wide t low
 
-        module _ {by-low : MaskStore} (q : r' ≡ Ok by-low) where
-          pub low-allows : allowed by-low ≡ true
-          low-allows = grown-allows store (own ++ low) size both-wide (sym both ∙ q)
+      pub low-stops : {x : Refusal} → grown_by by-own low ≡ Err x → Err x ≡ grown_by store (state_needs base (graph_from w) s)
+      low-stops q = grown-stops store (own ++ low) high (sym both ∙ q) ∙ ap (grown_by store) (state-each (graph_from w) s is-fork k)
 
-          pub high-done : {r'' : Result MaskStore Refusal} → r'' ≡ grown_by by-low (edge_need from s (get_or l 1 None)) → r'' ≡ grown_by store (state_needs base (graph_from w) s)
-          high-done e'' =
-              e'' ∙ grown-more store (own ++ low) size both-wide (sym both ∙ q) high ∙ ap (grown_by store) (state-each (graph_from w) s is-fork k)
+      pub high-done : {by-low : MaskStore} → grown_by by-own low ≡ Ok by-low → grown_by by-low high ≡ grown_by store (state_needs base (graph_from w) s)
+      high-done q = grown-more store (own ++ low) size both-wide (sym both ∙ q) high ∙ ap (grown_by store) (state-each (graph_from w) s is-fork k)
 
 -- ---- the states, one after another
 
@@ -146,23 +141,19 @@ module _ (w : List ℕ) (store : MaskStore) where
     wide : all_l whole (rows_to f s) ≡ true
     wide = whole_below base w fits s (omega (arith, from-length w))
 
-    pub going-allows : allowed now ≡ true
-    going-allows = grown-allows store (rows_to f s) size wide go
-
     next : grown_by now (f s) ≡ grown_by store (rows_to f (s + 1))
     next = grown-more store (rows_to f s) size wide go (f s) ∙ ap (grown_by store) (sym (rows_more f s))
 
-    module _ {r : Result MaskStore Refusal} (e : r ≡ grown_by now (f s)) where
-      pub going_more : {m : MaskStore} → r ≡ Ok m → Going m (s + 1)
-      going_more t = sym (e ∙ next) ∙ t
+    pub going_more : {m : MaskStore} → grown_by now (f s) ≡ Ok m → Going m (s + 1)
+    going_more t = sym next ∙ t
 
-      pub going-refused : {x : Refusal} → r ≡ Err x → Err x ≡ grown_by store (needs base (graph_from w))
-      unfolding needs
-      going-refused t =
-          let n = length (graph_from w).states in
-          let (rest, q) = rows-front f (s + 1) (n - (s + 1)) in
-          let m : (s + 1) + (n - (s + 1)) ≡ n = omega (arith, from-length w) in
-          grown-stops store (rows_to f (s + 1)) rest (sym (e ∙ next) ∙ t) ∙ ap (grown_by store) (sym q ∙ ap (rows_to f) m)
+    pub going-refused : {x : Refusal} → grown_by now (f s) ≡ Err x → Err x ≡ grown_by store (needs base (graph_from w))
+    unfolding needs
+    going-refused t =
+        let n = length (graph_from w).states in
+        let (rest, q) = rows-front f (s + 1) (n - (s + 1)) in
+        let m : (s + 1) + (n - (s + 1)) ≡ n = omega (arith, from-length w) in
+        grown-stops store (rows_to f (s + 1)) rest (sym next ∙ t) ∙ ap (grown_by store) (sym q ∙ ap (rows_to f) m)
 
   pub going_done : {now : MaskStore} {s : ℕ} → Going now s → s ≡ get_or w 0 0 → Ok now ≡ grown_by store (needs base (graph_from w))
   unfolding needs

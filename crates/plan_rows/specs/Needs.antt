@@ -5,9 +5,15 @@ use Rattle.refusals.specs.declared.Refusal.TheVariants.{Store}
 use Rattle.graph_rules.specs.Graph.{State}
 use Rattle.classes.specs.Classes.{Class}
 use Rattle.edges.specs.Edges.{class_to}
+use Rattle.mask_store.specs.declared.Allowed.{Allowed}
 use Rattle.mask_store.specs.declared.MaskStore.{MaskStore}
 use Rattle.mask_store.specs.Masks.{takes, grown}
 use Rattle.plan_rules.specs.Plan.{base, way_to, masked}
+
+-- what is answered of a store that is allowed, of the store
+abbrev pub stored : Result Allowed Refusal → Result MaskStore Refusal
+stored (Ok s) = Ok s.store
+stored (Err r) = Err r
 
 unfoldable pub grown_by : MaskStore → List Class → Result MaskStore Refusal
 grown_by store cs = cond (takes store cs) (Ok (grown store cs)) (Err Store)

@@ -1,23 +1,27 @@
 // The byte edges of one state.
-ghost use Rattle.std.specs.Prelude.{◌≡◌, true, ◌<◌, get_or};
+ghost use Rattle.std.specs.Prelude.{◌≡◌, ◌<◌, ltb, get_or};
 ghost use Rattle.graph_rules.specs.Graph.{graph_from};
+ghost use Rattle.plan_rules.specs.Plan.{base};
 ghost use Rattle.plan_rows.specs.Fork.{fork_of};
 
 use crate::way::EDGES;
 use words::graph::Graph;
 
-// How they are tested: by a table where they lead to more than two states, else one by one; these are the states, ascending.
-#[derive(Clone, Copy, PartialEq, Eq)]
-pub enum Edges {
-    ByTable,
-    Each([Option<usize>; EDGES]),
-}
-
-// The byte edges of a state, and whether one of them leads to the state itself.
+// Whether one of them leads to the state itself, to how many states they lead, and the lowest of these, ascending.
 #[derive(Clone, Copy, PartialEq, Eq)]
 pub struct Fork {
     pub own: bool,
-    pub edges: Edges,
+    pub count: usize,
+    pub lowest: [Option<usize>; EDGES],
+}
+
+impl Fork {
+    // Whether they are tested by a table, else one by one: these are then all of `lowest`.
+    pub fn by_table(self) -> bool
+        ensures { result ≡ ltb base.edges self.count }
+    {
+        EDGES < self.count
+    }
 }
 
 // The byte edges of state s.
@@ -36,16 +40,9 @@ pub fn fork_at(graph: Graph<'_>, s: usize) -> Fork
             count += 1;
         }
     }
-    let own = leads[s];
-    if EDGES < count {
-        Fork {
-            own,
-            edges: Edges::ByTable,
-        }
-    } else {
-        Fork {
-            own,
-            edges: Edges::Each(lowest),
-        }
+    Fork {
+        own: leads[s],
+        count,
+        lowest,
     }
 }

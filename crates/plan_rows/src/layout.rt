@@ -24,7 +24,7 @@ pub fn own(plan: &[u16], s: usize) -> Option<usize>
     }
 }
 
-// Its word.
+// Its word. (No From, here and below: the types are of other crates.)
 pub(crate) fn own_code(mask: Option<usize>) -> u16
     requires { own_code mask < 2 ^ 16 }
     ensures { result ≡ own_code mask }
@@ -35,7 +35,8 @@ pub(crate) fn own_code(mask: Option<usize>) -> u16
     }
 }
 
-// What the word of its edge j says, in target order.
+// What the word of its edge j says, in target order. An edge stays a number with its bound, since its place is counted by it, as it is where a run's
+// edges are kept.
 pub fn edge(plan: &[u16], s: usize, j: usize) -> EdgeWord
     requires { edge_place base s j < length plan.now }
     ensures { result ≡ edge_said (get_or plan.now (edge_place base s j) 0) }

@@ -6,7 +6,6 @@
 
 pub mod fork;
 pub mod layout;
-pub mod masks;
 pub mod needs;
 pub mod rows;
 pub mod way;

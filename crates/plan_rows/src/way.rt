@@ -12,7 +12,7 @@ pub const EDGES: usize = 2;
 // Above this cost the class of an edge takes a mask.
 pub(crate) const COST: usize = 2;
 
-// How a byte is tested for the edge from s to u where no table is used.
+// How a byte is tested for the edge from s to u where no table is used. A target is a state, and stays a number with its bound, as `Graph` says.
 pub fn way_to(graph: Graph<'_>, s: usize, u: usize) -> Way
     requires s_bound { s < get_or graph.words.now 0 0 }
     requires u_bound { u < get_or graph.words.now 0 0 }

@@ -10,11 +10,11 @@ use Rattle.graph_rules.specs.Graph.{Graph, graph_from, graph_fits}
 use Rattle.graph_rules.proofs.Flat.{from-length}
 use Rattle.classes.specs.Classes.{Class}
 use Rattle.mask_store.specs.declared.MaskStore.{MaskStore}
-use Rattle.mask_store.specs.Layout.{store_size, most_masks}
+use Rattle.mask_store.specs.Layout.{store_size}
 use Rattle.mask_store.specs.Masks.{held, held_with, grown, takes}
 use Rattle.mask_store.proofs.Numbers.{met-split}
 use Rattle.mask_store.proofs.MaskLaws.{length-held}
-use Rattle.mask_store.proofs.Growth.{grown-size, held_grown}
+use Rattle.mask_store.proofs.Growth.{held_grown}
 use Rattle.mask_store.proofs.Several.{takes-few}
 use Rattle.plan_rules.specs.Plan.{base, needs, plan_words, plan_of, plan_size}
 use Rattle.plan_rules.proofs.OwnStore.{needs-whole}
@@ -68,13 +68,6 @@ module _ (graph out : List ℕ) (store : MaskStore) where
             omega (arith, grown-count store needed after e, ap length split, length-append (held store) m, length-held store)
 
         module _ (size : length store.tables ≡ store_size) where
-          pub after-fits : (after.count ≤ most_masks) × (length after.tables ≡ store_size)
-          after-fits =
-              let few = takes-few store needed t in (
-                omega (arith, grown-count store needed after e),
-                ap (λ (s : MaskStore). length s.tables) e ∙ grown-size store needed size (needs-whole base graph fits) few,
-              )
-
           pub plan-made : (wrote : List ℕ) → wrote ≡ plan_words base (held after) g ++ drop (plan_size base g) out
               → plan_call base graph out store ≡ planned store after wrote
           unfolding plan_call plan_of

@@ -1,12 +1,11 @@
 // Planning a graph on a mask store: by value, on a store that is lent and grows in the call, and by a loan made for the call. Each is the one before
-// with another hold on the store, and says so in a line or two.
+// with another hold on the store, and says so in a line or two (docs/DECISIONS.md, 36). Graph words, buffer and store come apart, as C hands them in.
 ghost use Rattle.std.specs.Prelude.{◌≡◌, ◌-◌, ◌≤◌, IfOk, MatchResult};
 ghost use Rattle.plan_rules.specs.Plan.{base};
 ghost use Rattle.planning.specs.Plan.{no_plan, planned, plan_call};
 
-use mask_store::MaskStore;
+use mask_store::{MaskStore, Masks};
 use plan_rows::layout::ROW;
-use plan_rows::masks::Masks;
 use refusals::Refusal;
 use words::graph::Graph;
 
@@ -29,11 +28,10 @@ fn grown_by_plan(graph: &[u16], out: &mut [u16], store: MaskStore) -> Result<Mas
     }
     let after = plan_rows::needs::grow(legal, store)?;
     let masks = Masks {
-        tables: &after.tables,
-        count: after.count,
+        store: &after.store,
     };
     plan_rows::rows::write(legal, out, masks);
-    Ok(after)
+    Ok(after.store)
 }
 
 // The plan of the graph, three words a state, in the front of the buffer, and the store with the masks that it needs; or 12, 14 or 15, and buffer

@@ -19,6 +19,7 @@ use Rattle.classes.specs.Classes.{Class}
 use Rattle.mask_store.specs.declared.MaskStore.{MaskStore}
 use Rattle.mask_store.specs.Layout.{most_masks}
 use Rattle.mask_store.specs.Masks.{held, held_with, grown, takes}
+use Rattle.mask_store.proofs.Growth.{grown-same}
 use Rattle.mask_store.proofs.Several.{takes-few, count-few}
 use Rattle.plan_rules.specs.Plan.{base, table_word, needs, plan_of, plan_words, plan_size}
 use Rattle.plan_rules.specs.Run.{self_of, edge_held, row_held, rows_of, run_from, run, is_plan}
@@ -28,21 +29,17 @@ use Rattle.graph_rules.proofs.Taken.{taken-root}
 use Rattle.words.proofs.GraphWords.{from-edge}
 use Rattle.plan_rules.proofs.RunIsWalk.{base-sane, plan-runs}
 use Rattle.plan_rules.proofs.Decided.{plan-decided}
-use Rattle.std.specs.Prelude.{Result, Ok, Err, IsErrAnd}
-use Rattle.std.proofs.lemmas.Result.{err_from_is_err_and}
+use Rattle.std.specs.Prelude.{Result, Ok, Err}
 use Prim.Native.Nat.{zero, suc}
 use Rattle.refusals.specs.declared.Refusal.{Refusal}
 use Rattle.refusals.specs.declared.Refusal.TheVariants.{GraphForm, Store}
 use Rattle.refusals.specs.Refusals.{numbered, answered}
 use Rattle.plan_rows.specs.Needs.{grown_by}
-use Rattle.plan_rows.proofs.Growing.{was-refused, by-refused}
+use Rattle.plan_rows.proofs.Growing.{was-taken, store-grown, was-refused, by-refused}
 use Rattle.plans.specs.Run.{plan_refusal, run_refusal, run_call, RunsAlike}
 use Rattle.planning.proofs.Planning.{grown-count}
 
--- ---- what a `?` hands on, and a refusal by its number
-
-pub passed : {A : Type 0} (r : Result A Refusal) {x : Refusal} → IsErrAnd r (λ y. y ≡ x) → r ≡ Err x
-passed r h = let p = err_from_is_err_and r h in p.1 ∙ ap (λ y. Err y) p.2
+-- ---- a refusal by its number
 
 -- what a call answers that has nothing to tell but that it is not refused
 abbrev pub done : Unit {0}
@@ -86,25 +83,36 @@ module _ (g : Graph) (words : List ℕ) (store : MaskStore) where
         let q : x ≡ Store = cc (by-refused store needed t) in
         rw (le-ltb (length words) (plan_size base g) long, t) (ap (λ (y : Refusal). Err y) q)
 
-    module _ (t : takes store needed ≡ true) (after : MaskStore) (e : after ≡ grown store needed) where
+    module _ {after : MaskStore} (made : grown_by store needed ≡ Ok after) where
+      is-grown : after ≡ grown store needed
+      is-grown = store-grown store needed made
+
       decided : is_plan base g words store ≡ (eqb after.count store.count && begun)
-      decided = plan-decided base base-sane g words store t ∙ ap (λ (n : ℕ). eqb n store.count && begun) (sym (grown-count store needed after e))
+      decided =
+          plan-decided base base-sane g words store (was-taken store needed made) ∙ ap (λ (n : ℕ). eqb n store.count && begun) (sym (grown-count store needed after is-grown))
 
       no-plan : is_plan base g words store ≡ false → plan_refusal base g words store ≡ 14
       unfolding plan_refusal
-      no-plan p = rw (le-ltb (length words) (plan_size base g) long, t, p)
+      no-plan p = rw (le-ltb (length words) (plan_size base g) long, was-taken store needed made, p)
 
       pub plan-lacks : (after.count ≡ store.count → ⊥) → plan_refusal base g words store ≡ 14
       plan-lacks n = no-plan (decided ∙ ap (λ (b : Bool). b && begun) (ne_eqb after.count store.count n))
 
-      pub plan-differs : begun ≡ false → plan_refusal base g words store ≡ 14
-      plan-differs b = no-plan (decided ∙ and-right-false (eqb after.count store.count) begun b)
+      -- a store whose count did not grow is the same
+      module _ (n : after.count ≡ store.count) {b : Bool} (agrees : eq_list eqb (take (plan_size base g) words) (plan_words base (held after) g) ≡ b) where
+        told-begun : begun ≡ b
+        told-begun =
+            let same : after ≡ store = is-grown ∙ grown-same store needed (ap (λ (s : MaskStore). s.count) (sym is-grown) ∙ n) in
+            ap (λ (s : MaskStore). eq_list eqb (take (plan_size base g) words) (plan_words base (held s) g)) (sym same) ∙ agrees
 
-      pub plan-taken : after.count ≡ store.count → begun ≡ true → plan_refusal base g words store ≡ 0
-      unfolding plan_refusal
-      plan-taken n b =
-          let p : is_plan base g words store ≡ true = decided ∙ and_intro (eqb after.count store.count) begun (eq-eqb _ _ n) b in
-          rw (le-ltb (length words) (plan_size base g) long, t, p)
+        pub plan-differs : b ≡ false → plan_refusal base g words store ≡ 14
+        plan-differs e = no-plan (decided ∙ and-right-false (eqb after.count store.count) begun (told-begun ∙ e))
+
+        pub plan-taken : b ≡ true → plan_refusal base g words store ≡ 0
+        unfolding plan_refusal
+        plan-taken e =
+            let p : is_plan base g words store ≡ true = decided ∙ and_intro (eqb after.count store.count) begun (eq-eqb _ _ n) (told-begun ∙ e) in
+            rw (le-ltb (length words) (plan_size base g) long, was-taken store needed made, p)
 
 -- ---- words that are taken
 

@@ -7,8 +7,8 @@ ghost use Rattle.scans.specs.List.{no_list};
 ghost use Rattle.plans.specs.Run.{RunsAlike, planned_refusal, planned_list};
 
 use crate::run::{check_plan, ready};
-use graph_rules::Found;
 use mask_store::MaskStore;
+use readings::walk::Last;
 use refusals::Refusal;
 use runner::edge::NO_EDGE;
 use runner::planned::Planned;
@@ -28,7 +28,7 @@ struct ByPlan<'a> {
 impl Reader for ByPlan<'_> {
     ghost words = { λ p. p.planned.graph.words.now };
 
-    fn read(&self, text: &[u8]) -> Option<Found> {
+    fn read(&self, text: &[u8]) -> Last {
         self.planned.run(text)
     }
 }

@@ -7,9 +7,8 @@ ghost use Rattle.runner.specs.Prepared.{edges_size, Prepared};
 ghost use Rattle.plans.specs.Run.{plan_refusal, run_call};
 
 use graph_rules::Found;
-use mask_store::MaskStore;
+use mask_store::{MaskStore, Masks};
 use plan_rows::layout::ROW;
-use plan_rows::masks::Masks;
 use refusals::Refusal;
 use runner::edge::{Edge, NO_EDGE};
 use runner::planned::Planned;
@@ -25,12 +24,12 @@ pub(crate) fn check_plan(graph: Graph<'_>, plan: &[u16], store: &MaskStore) -> R
         return Err(Refusal::PlanOrOffset);
     }
     let after = plan_rows::needs::grow(graph, *store)?;
-    if after.count != store.count {
+    let held = store.count;
+    if after.store.count != held {
         return Err(Refusal::PlanOrOffset);
     }
     let masks = Masks {
-        tables: &store.tables,
-        count: store.count,
+        store: &after.store,
     };
     if plan_rows::rows::agrees(graph, plan, masks) {
         Ok(())
@@ -61,7 +60,7 @@ pub(crate) fn ready<'a>(
     }
 }
 
-// The reading of a text by graph words, plan words and a store; or 12, 14 or 15.
+// The reading of a text by graph words, plan words and a store, which come apart, as C hands them in; or 12, 14 or 15.
 pub fn run(
     graph: &[u16],
     plan: &[u16],
@@ -74,5 +73,5 @@ pub fn run(
     check_plan(legal, plan, &store)?;
     let mut edges = [NO_EDGE; ENDS];
     prepare(legal, &mut edges);
-    Ok(ready(legal, plan, &store, &edges).run(text))
+    Ok(ready(legal, plan, &store, &edges).run(text).reading())
 }

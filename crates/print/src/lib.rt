@@ -22,7 +22,7 @@ use words::graph::Graph;
 
 // What is printed for an image is never longer.
 pub const ROOM: usize = 1019188;
-// The words of each of the build's two buffers.
+// The words of each of the build's two buffers. (Arrays: the repository has no heap.)
 const WORDS: usize = 32768;
 
 // What is printed of a build's answer and of the words it has left in the two buffers.

@@ -41,7 +41,7 @@ impl Text for Conflicts<'_> {
     }
 }
 
-// A graph and its conflicts; or a refusal.
+// A graph and its conflicts; or a refusal. (No Result: what is built is a struct of its own either way, and each is printed by its own lines.)
 #[derive(Clone, Copy)]
 pub(crate) enum Printed<'a> {
     Built {

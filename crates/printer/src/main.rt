@@ -18,14 +18,15 @@ mod input;
 mod moved;
 mod output;
 
-// Room for what is printed for any image.
+// Room for what is printed for any image. (An array, here and in `run`: the repository has no heap.)
 fn room() -> [u8; print::ROOM]
     ensures { most_printed ≡ length result }
 {
     [0; print::ROOM]
 }
 
-// Prints all that is to be printed for an image, and answers whether all of it was written.
+// Prints all that is to be printed for an image, and answers whether all of it was written. (A yes or no, here and in what it calls: what failed is told
+// where it fails, by its stream's name.)
 fn show<W: Write>(rt: &impl Eprint, out: &mut W, image: &[u8]) -> bool
     ensures { result ≡ true → Appends (W.contents out.old) (W.contents out.new) (printed image.now) }
 {

@@ -87,11 +87,6 @@ looked-on g n t p q w₀ w v a b =
     }
 
 module _ (g : Graph) (n t p : ℕ) (w₀ w : Work) (l : Looked g n t p w₀ w) where
-  -- begun here
-  pub looked-from : Looked g n t p w w
-  looked-from =
-      record { search = l.search; len = l.len; seeds = l.seeds; here = l.here; parents = l.parents; balance = refl }
-
   -- eight states at once, none of which is a parent
   pub looked-byte : (m : List ℕ) → ((t p : ℕ) → t < most_states → p < most_states → bit_at m t p ≡ leads (state_of g p) t) → t < most_states → p < most_states
       → get_or m (byte_of t p) 0 ≡ 0 → Looked g n t (p + (8 - p % 8)) w₀ w

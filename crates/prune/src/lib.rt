@@ -8,8 +8,9 @@ ghost use Rattle.prune.specs.Matrix.{bit_at};
 ghost use Rattle.graph_rules.specs.Layout.{most_states};
 
 use bits::{test_bit, with_bit};
-use relabel::{numbered, relabel};
+use relabel::relabel;
 use words::graph::Graph;
+use words::names::numbered;
 use words::{STATES, STEPS};
 use worklist::Worklist;
 

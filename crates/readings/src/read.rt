@@ -6,7 +6,7 @@ ghost use Rattle.graph_rules.specs.Layout.{no_leaf};
 ghost use Rattle.graph_rules.specs.Read.{Reading, read_graph, graph_walker, late};
 ghost use Rattle.readings.specs.Answers.{graph_read};
 
-use crate::walk::{Walker, walk};
+use crate::walk::{Last, Walker, walk};
 use graph_rules::Found;
 use refusals::Refusal;
 use words::graph::Graph;
@@ -42,11 +42,9 @@ impl Walker for Graph<'_> {
     }
 
     fn entered(&self, s: usize, k: usize) -> Option<Found> {
-        // accept is read first, so that the machine code has no branch on a mark
-        let accepted = late(self.accept(s), k);
         match self.early(s) {
             Some(leaf) => Some(Found { leaf, end: k }),
-            None => accepted,
+            None => late(self.accept(s), k),
         }
     }
 
@@ -55,14 +53,14 @@ impl Walker for Graph<'_> {
     }
 }
 
-// The reading of a text by well-formed graph words.
-pub fn read(graph: Graph<'_>, text: &[u8]) -> Option<Found>
+// The reading of a text by well-formed graph words: the last record of its walk.
+pub fn read(graph: Graph<'_>, text: &[u8]) -> Last
     ensures { result ≡ read_graph (graph_from graph.entry.words.now) text.now }
 {
     if graph.states() == 0 {
-        return None;
+        return Last::none();
     }
-    walk(&graph, Some(graph.root()), text)
+    walk(&graph, graph.root(), text)
 }
 
 // The reading of a text by graph words, or 12.
@@ -70,5 +68,5 @@ pub fn read_graph(graph: &[u16], text: &[u8]) -> Result<Option<Found>, Refusal>
     ensures { result ≡ graph_read graph.now text.now }
 {
     let graph = Graph::new(graph)?;
-    Ok(read(graph, text))
+    Ok(read(graph, text).reading())
 }

@@ -37,8 +37,8 @@ impl Walker for Table<'_> {
 pub fn read(table: Table<'_>, text: &[u8]) -> Option<Found>
     ensures { result ≡ read_table (table_of table.entry.words.now) text.now }
 {
-    let start = or_none(DEAD, table.start()?);
-    walk(&table, start, text)
+    let start = or_none(DEAD, table.start()?)?;
+    walk(&table, start, text).reading()
 }
 
 // The reading of a text by a table, or 1 to 7.

@@ -1,5 +1,5 @@
 // The walk of a text (docs/RULES.md, "Reading by the table" and "Reading by the graph"): one step for each byte, then the end step; the last record
-// is the reading. What steps and marks a walk takes is a type's: a table's, a graph's, or those of a plan in a crate above.
+// is the reading. What steps and marks a walk takes is a type's: a table's or a graph's.
 ghost use Rattle.std.specs.Prelude.{◌≡◌, ℕ, ◌<◌, None, IfSome};
 ghost use Rattle.std.specs.Option.{option_or};
 ghost use Rattle.graph_rules.specs.Layout.{step_count, no_leaf};
@@ -12,7 +12,8 @@ use words::END;
 use words::graph::NO_LEAF;
 
 // The last record of a walk, if there is one. The walk is hot, and holds it in two words, leaf 255 for none: with an `Option<Found>` in its place a byte
-// takes 27 instructions, and so 23.
+// took a fifth more instructions. A walk hands it out as it is, in two registers: a reading made there went through memory, and a scan of short tokens
+// took a third more.
 #[derive(Drop)]
 pub struct Last {
     leaf: usize,
@@ -89,28 +90,19 @@ pub trait Walker {
         ensures leaf { IfSome result (λ f. f.leaf < no_leaf) };
 }
 
-// The end step from state s, k bytes passed: what the end target records, if there is one.
-fn finish<W: Walker>(w: &W, s: usize, k: usize, last: &mut Last)
+// The last record after the end step from state s, k bytes passed: what the end target records, if there is one and it does.
+pub fn ended<W: Walker>(w: &W, s: usize, k: usize, mut last: Last) -> Last
     requires { s < W.states w.now }
-    ensures { last.new ≡ onward last.old (λ u. (W.walker w.now).leave u k last.old) ((W.walker w.now).next s 256) }
+    ensures { result ≡ onward last (λ u. (W.walker w.now).leave u k last) ((W.walker w.now).next s 256) }
 {
     if let Some(u) = w.next(s, END) {
         last.record(w.left(u, k));
     }
+    last
 }
 
-// The reading after the end step.
-pub fn ended<W: Walker>(w: &W, s: usize, k: usize, mut last: Last) -> Option<Found>
-    requires { s < W.states w.now }
-    ensures { result ≡ onward last (λ u. (W.walker w.now).leave u k last) ((W.walker w.now).next s 256) }
-{
-    finish(w, s, k, &mut last);
-    last.reading()
-}
-
-// The last record of the walk of a text from a state. It becomes a reading in one place, below: with a reading made at each exit a scan of short tokens
-// took a tenth more instructions.
-fn last_from<W: Walker>(w: &W, start: usize, text: &[u8]) -> Last
+// The last record of the walk of a text from a state.
+pub fn walk<W: Walker>(w: &W, start: usize, text: &[u8]) -> Last
     requires { start < W.states w.now }
     ensures { result ≡ walk (W.walker w.now) start 0 None text.now }
 {
@@ -125,14 +117,5 @@ fn last_from<W: Walker>(w: &W, start: usize, text: &[u8]) -> Last
     }
     let k = text.len();
     last.record(w.entered(s, k));
-    finish(w, s, k, &mut last);
-    last
-}
-
-// The reading of a text by a walk from state s, if there is one to start from.
-pub fn walk<W: Walker>(w: &W, start: Option<usize>, text: &[u8]) -> Option<Found>
-    requires { IfSome start (λ s. s < W.states w.now) }
-    ensures { result ≡ onward None (λ s. walk (W.walker w.now) s 0 None text.now) start }
-{
-    last_from(w, start?, text).reading()
+    ended(w, s, k, last)
 }

@@ -2,7 +2,7 @@
 #![tactic(auto)]
 
 ghost use Rattle.std.specs.Prelude.{◌≡◌, true, ◌⊎◌, ℕ, ◌<◌, ◌≤◌, length, get_or, None, unwrap_or};
-ghost use Rattle.lists.specs.Lists.{select, number_from};
+ghost use Rattle.lists.specs.Lists.{select};
 ghost use Rattle.graph_rules.specs.Layout.{step_count, no_state, most_states, row_words, marks_place, graph_place};
 ghost use Rattle.graph_rules.specs.Graph.{graph_fits, graph_from, rewritten};
 ghost use Rattle.graph_rules.specs.Build.{relabel};
@@ -11,7 +11,7 @@ ghost use Rattle.relabel.specs.Names.{new_word, Fitting, Moved};
 use words::graph::{Graph, ROW, place, set_head, set_word, word};
 use words::{NONE, STATES, STEPS, zero};
 
-// Word c of a row, renamed: a target gets its new name, the marks stay.
+// Word c of a row, renamed: a target gets its new name, the marks stay. (Words: the row is moved word by word, targets and marks alike.)
 fn new_word(names: &[Option<u16>; STATES], c: usize, word: usize) -> u16
     requires word_bound { word < 65536 }
     requires fact { c < step_count → (word < most_states) ⊎ (word ≡ no_state) }
@@ -43,7 +43,9 @@ fn move_row(graph: &mut [u16], names: &[Option<u16>; STATES], s: usize, k: usize
     }
 }
 
-// The graph of the rows that stay, each state known by its new name, if it has one. Zeros take the place of the other rows.
+// The graph of the rows that stay, each state known by its new name, if it has one. Zeros take the place of the other rows. (The frame is that of
+// `rows::write`: one for both would take the row's writer as a closure with its promise, which is longer than the frame. Two arrays: a merged state has a
+// name and does not stay.)
 pub fn relabel(graph: &mut [u16], names: &[Option<u16>; STATES], stay: &[bool; STATES])
     requires graph_value { graph_fits graph.old ≡ true }
     requires fitting { Fitting names.now (select stay.now (graph_from graph.old).states) (graph_from graph.old).root }
@@ -62,19 +64,4 @@ pub fn relabel(graph: &mut [u16], names: &[Option<u16>; STATES], stay: &[bool; S
     }
     zero(graph, place(k, 0), place(n, 0));
     set_head(graph, k as u16, root_name(names, root));
-}
-
-// The members of a set, numbered in ascending order; none elsewhere.
-pub fn numbered(keep: &[bool; STATES]) -> [Option<u16>; STATES]
-    ensures { result ≡ number_from 0 keep.now }
-{
-    let mut out: [Option<u16>; STATES] = [None; STATES];
-    let mut k: usize = 0;
-    for s in 0..STATES {
-        if keep[s] {
-            out[s] = Some(k as u16);
-            k += 1;
-        }
-    }
-    out
 }

@@ -4,10 +4,12 @@
 
 mod calls;
 
+use vectors::report::Kinds;
+
 fn main() {
-    vectors::replay::run(
-        b"built:\nrefused 1:\nrefused 2:\nrefused 3:\nrefused 4:\nrefused 5:\nrefused 6:\nrefused 7:\nrefused 8:\nrefused 9:\nimage refused 13:\n",
-        11,
-        |turn| calls::alike(turn.case),
-    );
+    let kinds = Kinds {
+        names: b"built:\nrefused 1:\nrefused 2:\nrefused 3:\nrefused 4:\nrefused 5:\nrefused 6:\nrefused 7:\nrefused 8:\nrefused 9:\nimage refused 13:\n",
+        leading: 11,
+    };
+    vectors::replay::run(kinds, |turn| calls::alike(turn.case));
 }

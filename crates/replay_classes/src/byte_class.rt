@@ -3,33 +3,28 @@ use classes::byte_class::Comparison;
 use vectors::cases::{number, part, shaped};
 use vectors::parts::padded;
 
-// A field of each entry: the list has each field by itself.
-fn column<T: Copy, F: Fn(T) -> u8>(entries: &[T; 128], field: F) -> [u8; 128]
+// Whether a field is those bytes in so many entries, and 0 in those behind them: the list has each field by itself.
+fn column<T: Copy, F: Fn(T) -> u8>(entries: &[T; 128], count: usize, field: F, given: &[u8]) -> bool
     requires { F.IsAlwaysCallable field }
 {
     let mut bytes = [0u8; 128];
     for (byte, &entry) in bytes.iter_mut().zip(entries) {
         *byte = field(entry);
     }
-    bytes
+    count == given.len() && padded(&bytes, given, 0)
 }
 
 fn ranges_alike(class: &[bool; 256], case: &[u8]) -> bool {
     let held = classes::byte_class::ranges(class);
-    held.count == part(case, 1).len()
-        && padded(&column(&held.ranges, |range| range.first), part(case, 1), 0)
-        && held.count == part(case, 2).len()
-        && padded(&column(&held.ranges, |range| range.last), part(case, 2), 0)
+    column(&held.ranges, held.count, |range| range.first, part(case, 1))
+        && column(&held.ranges, held.count, |range| range.last, part(case, 2))
 }
 
 fn comparisons_alike(class: &[bool; 256], case: &[u8]) -> bool {
     let cmp = classes::byte_class::impl_with_cmp(class);
-    cmp.count == part(case, 3).len()
-        && padded(&column(&cmp.list, |entry| entry.first), part(case, 3), 0)
-        && cmp.count == part(case, 4).len()
-        && padded(&column(&cmp.list, |entry| entry.last), part(case, 4), 0)
-        && cmp.count == part(case, 5).len()
-        && padded(&column(&cmp.list, |entry| entry.holes), part(case, 5), 0)
+    column(&cmp.list, cmp.count, |entry| entry.first, part(case, 3))
+        && column(&cmp.list, cmp.count, |entry| entry.last, part(case, 4))
+        && column(&cmp.list, cmp.count, |entry| entry.holes, part(case, 5))
         && padded(&cmp.except, part(case, 6), 0)
 }
 

@@ -5,12 +5,14 @@
 mod byte_class;
 mod masks;
 
+use vectors::report::Kinds;
+
 fn main() {
-    vectors::replay::run(
-        b"classes\ncount_ops\nstores\n",
-        3,
-        |turn| alike(turn.case, turn.number),
-    );
+    let kinds = Kinds {
+        names: b"classes\ncount_ops\nstores\n",
+        leading: 3,
+    };
+    vectors::replay::run(kinds, |turn| alike(turn.case, turn.number));
 }
 
 // The case with number i. Every second store is lent.

@@ -1,6 +1,7 @@
 // A mask store: classes that are added to it, one after another, all bits of its tables afterwards, and the tables that it renders.
 use mask_store::{Added, MaskStore, TABLE_SIZE, TABLES};
 use refusals::Refusal;
+use vectors::answers::answer;
 use vectors::cases::{number, part};
 use vectors::parts::padded;
 
@@ -33,13 +34,13 @@ fn all_added<F: Fn(MaskStore, [bool; 256]) -> Added>(
     Some(store)
 }
 
-// The tables, of which those that are not given are 0; where the call is refused all are.
-fn rendered_alike(store: MaskStore, refusal: usize, given: &[u8]) -> bool {
+// What `render_luts` answers; and the tables, of which those that are not given are 0: where the call is refused all are.
+fn rendered_alike(store: MaskStore, answer: Result<(), Refusal>, given: &[u8]) -> bool {
     let (told, luts) = match mask_store::render_luts(store) {
-        Ok(luts) => (0, luts),
-        Err(refusal) => (u8::from(refusal), [[0; TABLE_SIZE]; TABLES]),
+        Ok(luts) => (Ok(()), luts),
+        Err(refusal) => (Err(refusal), [[0; TABLE_SIZE]; TABLES]),
     };
-    told as usize == refusal
+    told == answer
         && given.len() % TABLE_SIZE == 0
         && given.len() <= TABLES * TABLE_SIZE
         && luts.iter().enumerate().all(|(t, table)| padded(
@@ -65,10 +66,13 @@ pub(crate) fn alike<F: Fn(MaskStore, [bool; 256]) -> Added>(case: &[u8], add: F)
     let classes = part(case, 1);
     let numbers = part(case, 2);
     let stored = store_of(case, part(case, 3), number(case, 2));
+    let Some(rendered) = answer(number(case, 3), ()) else {
+        return false;
+    };
     vectors::cases::shaped(case, 4, 5)
         && classes.len() / 32 == numbers.len()
         && classes.len() % 32 == 0
         && all_added(before, classes, numbers, add).is_some_and(|after| {
-            after == stored && rendered_alike(after, number(case, 3), part(case, 4))
+            after == stored && rendered_alike(after, rendered, part(case, 4))
         })
 }

@@ -4,10 +4,14 @@
 
 mod text_cases;
 
+use vectors::report::Kinds;
+
 fn main() {
-    vectors::replay::run(b"graphs\nerror lines\n", 2, |turn| {
-        alike(turn.case, turn.number)
-    });
+    let kinds = Kinds {
+        names: b"graphs\nerror lines\n",
+        leading: 2,
+    };
+    vectors::replay::run(kinds, |turn| alike(turn.case, turn.number));
 }
 
 // The case with number i.

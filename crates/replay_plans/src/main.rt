@@ -7,33 +7,35 @@ mod plan;
 mod run;
 
 use plans::plan::{plan_by_loan, plan_by_value};
+use refusals::Refusal;
 use vectors::cases::kind;
 use vectors::replay::Turn;
+use vectors::report::Kinds;
 
 fn main() {
-    vectors::replay::run(
-        b"planned:\nrefused 12:\nrefused 14:\nrefused 15:\nruns:\nruns refused:\n",
-        4,
-        |turn| alike(turn),
-    );
+    let kinds = Kinds {
+        names: b"planned:\nrefused 12:\nrefused 14:\nrefused 15:\nruns:\nruns refused:\n",
+        leading: 4,
+    };
+    vectors::replay::run(kinds, |turn| alike(turn));
 }
 
 // A run belongs to the planning before it. Planning goes by value on the first buffer and by a loan on the second, or the other way round, in turn.
 fn alike(turn: Turn<'_>) -> bool {
-    let refusal = match kind(turn.case) {
-        0 => 0,
-        1 => 12,
-        2 => 14,
-        3 => 15,
+    let answer = match kind(turn.case) {
+        0 => Ok(plan::gained(turn.case)),
+        1 => Err(Refusal::GraphForm),
+        2 => Err(Refusal::PlanOrOffset),
+        3 => Err(Refusal::Store),
         4 | 5 => {
-            return kind(turn.host) == 0 && run::alike(turn.host, turn.case, turn.number);
+            return kind(turn.host) == 0 && run::alike(turn);
         }
         _ => return false,
     };
     if turn.number % 2 == 1 {
         plan::alike(
             turn.case,
-            refusal,
+            answer,
             turn.number,
             |graph: &[u16], out: &mut [u16], store| plan_by_loan(graph, out, store),
             |graph: &[u16], out: &mut [u16], store| plan_by_value(graph, out, store),
@@ -41,7 +43,7 @@ fn alike(turn: Turn<'_>) -> bool {
     } else {
         plan::alike(
             turn.case,
-            refusal,
+            answer,
             turn.number,
             |graph: &[u16], out: &mut [u16], store| plan_by_value(graph, out, store),
             |graph: &[u16], out: &mut [u16], store| plan_by_loan(graph, out, store),

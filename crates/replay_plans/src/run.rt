@@ -1,19 +1,35 @@
 // Runs by a plan, against the stored outcomes, and beside the walk of the graph.
+use crate::plan::{GRAPH, PLAN, pattern};
 use graph_rules::Found;
 use mask_store::MaskStore;
 use refusals::Refusal;
-use vectors::cases::{number, part};
+use vectors::answers::answer;
+use vectors::cases::{half, number, part};
+use vectors::replay::Turn;
 use vectors::words::front;
 
-// An answer with the number of its refusal.
-fn told(answer: Result<Option<Found>, Refusal>) -> Result<Option<Found>, usize> {
-    match answer {
-        Ok(reading) => Ok(reading),
-        Err(r) => Err(u8::from(r) as usize),
+// A text, and what it is run by.
+#[derive(Clone, Copy)]
+pub(crate) struct Planned<'a> {
+    pub graph: &'a [u16],
+    pub plan: &'a [u16],
+    pub store: MaskStore,
+    pub text: &'a [u8],
+}
+
+impl Planned<'_> {
+    fn run(&self) -> Result<Option<Found>, Refusal> {
+        plans::run::run(self.graph, self.plan, self.store, self.text)
+    }
+
+    // A run that is refused so, and so is every list.
+    pub(crate) fn refused(&self, refusal: Refusal) -> bool {
+        self.run() == Err(refusal) && self.lists_refused(refusal)
     }
 }
 
-// A reading as the list has it: its leaf, and its end in the upper half; 65,535 for none.
+// A reading as the list has it: its leaf, and its end in the upper half; 65,535 for none. (`replay_readings` has it too: what both share, `vectors`,
+// stands beside the graph's rules.)
 fn reading(word: usize) -> Option<Found> {
     if word == 65535 {
         return None;
@@ -22,14 +38,6 @@ fn reading(word: usize) -> Option<Found> {
         leaf: word % 65536,
         end: word / 65536,
     })
-}
-
-// The outcome of a run: its refusal, or its reading.
-fn outcome(case: &[u8]) -> Result<Option<Found>, usize> {
-    match number(case, 4) {
-        0 => Ok(reading(number(case, 5))),
-        r => Err(r),
-    }
 }
 
 // A store with a class more, if it has room and lacks it: the masks that it holds keep their numbers.
@@ -43,47 +51,38 @@ fn give(host: &[u8], case: &[u8], plan: &mut [u16]) -> Option<usize> {
     let n = vectors::cases::words(host, 3, plan)?;
     let i = number(case, 2);
     if i < plan.len() {
-        plan[i] = (number(case, 3) % 65536) as u16;
+        plan[i] = half(case, 3);
     }
     Some(n)
 }
 
 // Run i by the words that it is given; and by more words, if it is given all of the plan, and a store with a class more, if it has the one that planning
 // left. The outcome is the same. Where it is not refused, the walk of the graph reads the same, and lists the same as the plan.
-fn by_plan(
-    host: &[u8],
-    case: &[u8],
-    graph: &[u16],
-    given: &[u16],
-    longer: &[u16],
-    i: usize,
-) -> bool {
-    let text = part(case, 0);
-    let grown = number(case, 0) == 1;
-    let store = if grown {
-        crate::plan::after(host)
-    } else {
-        crate::plan::before(host)
+fn by_plan(given: &Planned<'_>, more: &Planned<'_>, case: &[u8], i: usize) -> bool {
+    let Some(outcome) = answer(number(case, 4), reading(number(case, 5))) else {
+        return false;
     };
-    let wider = if grown { with_more(store, text) } else { store };
-    let by_walk = told(graph::read::read_graph(graph, text));
-    told(plans::run::run(graph, given, store, text)) == outcome(case)
-        && told(plans::run::run(graph, longer, wider, text)) == outcome(case)
-        && (if number(case, 4) == 0 {
-            by_walk == outcome(case) && crate::listings::alike(graph, given, store, text, i)
-        } else {
-            number(case, 5) == 65535
-                && crate::listings::all_refuse(graph, given, store, text, number(case, 4))
-        })
+    given.run() == outcome
+        && more.run() == outcome
+        && match outcome {
+            Ok(_) => graph::read::read_graph(given.graph, given.text) == outcome
+                && given.lists_alike(i),
+            Err(refusal) => number(case, 5) == 65535 && given.lists_refused(refusal),
+        }
 }
 
-// The run with number i.
-pub(crate) fn alike(host: &[u8], case: &[u8], i: usize) -> bool {
-    let mut room = crate::plan::graph_room();
+// A run by the plan of the case to which it belongs.
+pub(crate) fn alike(turn: Turn<'_>) -> bool {
+    let Turn {
+        host,
+        case,
+        number: i,
+    } = turn;
+    let mut room: [u16; GRAPH] = vectors::room(0);
     let Some(n) = vectors::cases::words(host, 0, &mut room) else {
         return false;
     };
-    let mut plan = crate::plan::plan_room(crate::plan::pattern(host));
+    let mut plan: [u16; PLAN] = vectors::room(pattern(host));
     let Some(held) = give(host, case, &mut plan) else {
         return false;
     };
@@ -95,26 +94,24 @@ pub(crate) fn alike(host: &[u8], case: &[u8], i: usize) -> bool {
     } else {
         words
     };
-    vectors::cases::shaped(case, 6, 1)
-        && words <= held
-        && by_plan(
-            host,
-            case,
-            front(&room, n),
-            front(&plan, words),
-            front(&plan, longer),
-            i,
-        )
-}
-
-// A run that is refused by that number, and so is every list.
-pub(crate) fn refused_alike(
-    graph: &[u16],
-    plan: &[u16],
-    store: MaskStore,
-    text: &[u8],
-    refusal: usize,
-) -> bool {
-    told(plans::run::run(graph, plan, store, text)) == Err(refusal)
-        && crate::listings::all_refuse(graph, plan, store, text, refusal)
+    let text = part(case, 0);
+    let grown = number(case, 0) == 1;
+    let store = if grown {
+        crate::plan::after(host)
+    } else {
+        crate::plan::before(host)
+    };
+    let given = Planned {
+        graph: front(&room, n),
+        plan: front(&plan, words),
+        store,
+        text,
+    };
+    let more = Planned {
+        graph: given.graph,
+        plan: front(&plan, longer),
+        store: if grown { with_more(store, text) } else { store },
+        text,
+    };
+    vectors::cases::shaped(case, 6, 1) && words <= held && by_plan(&given, &more, case, i)
 }

@@ -5,12 +5,14 @@
 mod literals;
 mod tree_cases;
 
+use vectors::report::Kinds;
+
 fn main() {
-    vectors::replay::run(
-        b"rows of 256 literals\nstrings\ntrees\n",
-        3,
-        |turn| alike(turn.case),
-    );
+    let kinds = Kinds {
+        names: b"rows of 256 literals\nstrings\ntrees\n",
+        leading: 3,
+    };
+    vectors::replay::run(kinds, |turn| alike(turn.case));
 }
 
 fn alike(case: &[u8]) -> bool {

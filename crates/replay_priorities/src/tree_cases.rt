@@ -1,11 +1,12 @@
 // Pattern trees: their priority and the greedy test, refusals too.
+ghost use Rattle.std.specs.Prelude.{◌<◌};
+
 use refusals::Refusal;
+use vectors::answers::answer;
 use vectors::cases::{number, part};
 
 // Room for a tree of 1,024 records and more.
-fn tree_room() -> [u32; 8192] {
-    [0; 8192]
-}
+const TREE: usize = 8192;
 
 // The words that bytes are, four each, into the front of a lent buffer, as far as there is room.
 fn unpack(bytes: &[u8], tree: &mut [u32]) {
@@ -14,21 +15,19 @@ fn unpack(bytes: &[u8], tree: &mut [u32]) {
     }
 }
 
-// An answer in numbers: the refusal's, 0 for none, and the value, 0 where there is none.
-fn told(answer: Result<u32, Refusal>) -> (usize, usize) {
-    match answer {
-        Ok(value) => (0, value as usize),
-        Err(refusal) => (u8::from(refusal) as usize, 0),
-    }
+// The answer that numbers j and j + 1 tell. The value of one that is refused is 0.
+fn told(case: &[u8], j: usize) -> Option<Result<u32, Refusal>>
+    requires { j < 4 }
+{
+    let value = number(case, j + 1) as u32;
+    answer(number(case, j), value).filter(|answer| answer.is_ok() || value == 0)
 }
 
 // Both calls on a tree.
 fn calls_alike(case: &[u8], tree: &[u32]) -> bool {
     let text = part(case, 1);
-    let priority = pattern::priority(tree, text);
-    let greedy = pattern::check_for_greedy_all(tree, text);
-    told(priority) == (number(case, 0), number(case, 1))
-        && told(greedy.map(u32::from)) == (number(case, 2), number(case, 3))
+    told(case, 0) == Some(pattern::priority(tree, text))
+        && told(case, 2) == Some(pattern::check_for_greedy_all(tree, text).map(u32::from))
 }
 
 fn on_room(case: &[u8], tree: &mut [u32]) -> bool {
@@ -42,6 +41,6 @@ fn on_room(case: &[u8], tree: &mut [u32]) -> bool {
 }
 
 pub(crate) fn alike(case: &[u8]) -> bool {
-    let mut tree = tree_room();
+    let mut tree: [u32; TREE] = vectors::room(0);
     vectors::cases::shaped(case, 4, 2) && on_room(case, &mut tree)
 }

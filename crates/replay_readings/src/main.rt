@@ -10,13 +10,14 @@ mod text_cases;
 
 use vectors::cases::kind;
 use vectors::replay::Turn;
+use vectors::report::Kinds;
 
 fn main() {
-    vectors::replay::run(
-        b"tables\ngraphs\ntexts of tables\ntexts of graphs\n",
-        2,
-        |turn| alike(turn),
-    );
+    let kinds = Kinds {
+        names: b"tables\ngraphs\ntexts of tables\ntexts of graphs\n",
+        leading: 2,
+    };
+    vectors::replay::run(kinds, |turn| alike(turn));
 }
 
 // A text belongs to a table or a graph before it.
@@ -24,8 +25,8 @@ fn alike(turn: Turn<'_>) -> bool {
     match kind(turn.case) {
         0 => tables::alike(turn.case),
         1 => text_cases::graph_alike(turn.case),
-        2 => kind(turn.host) == 0 && text_cases::of_table(turn.host, turn.case, turn.number),
-        3 => kind(turn.host) == 1 && text_cases::of_graph(turn.host, turn.case, turn.number),
+        2 => kind(turn.host) == 0 && text_cases::of_table(turn),
+        3 => kind(turn.host) == 1 && text_cases::of_graph(turn),
         _ => false,
     }
 }

@@ -1,8 +1,9 @@
 // A scan, call by call: each piece, then ended, then 16. The pieces are entries of a list: start, end and leaf, 65,535 for a gap, a word each.
-ghost use Rattle.std.specs.Prelude.{◌<◌};
-
 use refusals::Refusal;
 use scans::scan::{Piece, Place, Scan, Scanned};
+
+// The bytes of an entry.
+pub(crate) const ENTRY_BYTES: usize = 12;
 
 // A scan that begins at an offset.
 pub(crate) fn begun(offset: usize) -> Scan {
@@ -14,21 +15,11 @@ pub(crate) fn begun(offset: usize) -> Scan {
     }
 }
 
-// Word j of entry k.
-pub(crate) fn entry(entries: &[u8], k: usize, j: usize) -> usize
-    requires k_bound { k < 4294967296 }
-    requires j_bound { j < 3 }
-{
-    vectors::word(entries, 12 * k + 4 * j)
-}
-
-// Entry k.
-fn piece(entries: &[u8], k: usize) -> Piece
-    requires { k < 4294967296 }
-{
-    let start = entry(entries, k, 0);
-    let end = entry(entries, k, 1);
-    match entry(entries, k, 2) {
+// The piece that an entry is.
+fn piece(entry: &[u8]) -> Piece {
+    let start = vectors::word(entry, 0);
+    let end = vectors::word(entry, 4);
+    match vectors::word(entry, 8) {
         65535 => Piece::Gap { start, end },
         leaf => Piece::Token { leaf, start, end },
     }
@@ -39,30 +30,40 @@ fn answers(scanned: Scanned, answer: Result<Option<Piece>, Refusal>, place: Plac
     scanned.answer == answer && scanned.scan.place == place
 }
 
-// Whether the next call is refused so, and the scan is as it was.
-pub(crate) fn refused(scan: Scan, graph: &[u16], text: &[u8], refusal: Refusal) -> bool {
-    answers(scan.next(graph, text), Err(refusal), scan.place)
+// A scan of a text by a graph, between two calls, and the entries of the pieces that are to come.
+#[derive(Clone, Copy)]
+pub(crate) struct Scanning<'a> {
+    pub graph: &'a [u16],
+    pub text: &'a [u8],
+    pub scan: Scan,
+    pub entries: &'a [u8],
 }
 
-// The next n pieces, and then ended.
-fn pieces_alike(start: Scan, graph: &[u16], text: &[u8], entries: &[u8], n: usize) -> bool
-    requires { n < 65536 }
-{
-    let mut scan = start;
-    for k in 0..n {
-        let scanned = scan.next(graph, text);
-        let piece = piece(entries, k);
-        if !answers(scanned, Ok(Some(piece)), Place::Reading(piece.end())) {
-            return false;
-        }
-        scan = scanned.scan;
+impl Scanning<'_> {
+    fn next(self) -> Scanned {
+        self.scan.next(self.graph, self.text)
     }
-    let last = scan.next(graph, text);
-    answers(last, Ok(None), Place::Ended) && refused(last.scan, graph, text, Refusal::ScanEnded)
-}
 
-// The scan from an offset on.
-pub(crate) fn alike(graph: &[u16], text: &[u8], offset: usize, entries: &[u8]) -> bool {
-    let n = entries.len() / 12;
-    n < 65536 && entries.len() % 12 == 0 && pieces_alike(begun(offset), graph, text, entries, n)
+    // Whether the next call is refused so, and the scan is as it was.
+    pub(crate) fn next_refused(self, refusal: Refusal) -> bool {
+        answers(self.next(), Err(refusal), self.scan.place)
+    }
+
+    // All pieces, and then ended. (A `for`: each piece goes on from the scan that the last one left.)
+    pub(crate) fn pieces_alike(self) -> bool {
+        let mut scanning = self;
+        for entry in self.entries.chunks(ENTRY_BYTES) {
+            let piece = piece(entry);
+            let scanned = scanning.next();
+            if !answers(scanned, Ok(Some(piece)), Place::Reading(piece.end())) {
+                return false;
+            }
+            scanning.scan = scanned.scan;
+        }
+        let last = scanning.next();
+        scanning.scan = last.scan;
+        self.entries.len() % ENTRY_BYTES == 0
+            && answers(last, Ok(None), Place::Ended)
+            && scanning.next_refused(Refusal::ScanEnded)
+    }
 }

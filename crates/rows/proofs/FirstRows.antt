@@ -1,19 +1,20 @@
 -- The rows of the reached states, one after another (`Written`): what the loop that writes them keeps, and that with the words in front and zeros after
 -- them they are the words of the first graph (`written_all_lem`). Assumes nothing.
-use Rattle.std.specs.Prelude.{Option, unwrap_or}
+use Rattle.std.specs.Prelude.{Option, Some, None, unwrap_or}
 use mathlib.Core.Path.{◌≡◌, refl, sym, ap, ◌∙◌}
 use mathlib.Core.Bool.{Bool, false}
-use mathlib.Core.List.{List, [], ◌∷◌, ◌++◌, map, flat_map}
+use mathlib.Core.List.{List, [], ◌∷◌, ◌++◌, append_assoc, map, flat_map}
 use Prim.Native.Nat.{ℕ, ◌+◌, ◌*◌, ◌-◌, ◌≤◌, ◌<◌}
 use native.Mathlib.Omega.{arith}
-use lib.ListN.{length, get_or, take, drop, replicate, length-append, length-replicate, length-map, get_or-append}
-use lib.Seq.{sets, length-sets, take-append-le}
+use lib.ListN.{length, get_or, take, drop, replicate, length-append, length-replicate, length-map}
+use lib.Seq.{sets, sets-eq, length-sets, length-take-le, drop_at}
 use Rattle.lists.specs.Lists.{below, select, number_from}
 use Rattle.lists.specs.Sets.{In, count}
 use Rattle.lists.proofs.Buffers.{sets-append, sets-front}
 use Rattle.lists.proofs.Elements.{length-tab}
 use Rattle.lists.proofs.Members.{members, members-in, members-out, select-count, select-map, flat_map-one, flat_map-map}
-use Rattle.lists.proofs.Numbering.{number-count}
+use Rattle.lists.proofs.Numbers.{number-padded}
+use Rattle.lists.proofs.Padding.{padding-at}
 use Rattle.lists.proofs.Worklist.{count-take-in, count-take-out}
 use Rattle.graph_rules.specs.Table.{table_of, size, refusal}
 use Rattle.graph_rules.specs.Graph.{State, Graph, state_words, graph_words, graph_buffer, written_on}
@@ -24,7 +25,14 @@ use Rattle.legal.specs.Conditions.{states}
 use Rattle.rows.specs.Renumbering.{first_graph, new_row}
 use Rattle.legal.proofs.Legal.{legal-sized}
 use Rattle.rows.proofs.NewRows.{row_is, row-length}
-use Rattle.legal.proofs.Steps.{found-start, found_in}
+
+-- two words in front, after the others
+front-late : (buffer body : List ℕ) (a b : ℕ) → 2 + length body ≤ length buffer
+    → sets (sets buffer 2 body) 0 (a ∷ (b ∷ [])) ≡ (a ∷ (b ∷ body)) ++ drop (2 + length body) buffer
+front-late buffer body a b room =
+    sets-front (sets buffer 2 body) (a ∷ (b ∷ [])) (let e = length-sets buffer 2 body in omega arith)
+    ∙ ap (λ (l : List ℕ). a ∷ (b ∷ drop 2 l)) (sets-eq body buffer 2 room ∙ append_assoc (take 2 buffer) body (drop (2 + length body) buffer))
+    ∙ ap (λ (l : List ℕ). a ∷ (b ∷ l)) (drop_at (take 2 buffer) (body ++ drop (2 + length body) buffer) 2 (length-take-le 2 buffer (omega arith)))
 
 -- the words of state s under its new name
 abbrev pub renamed_row : List ℕ → ℕ → ℕ → List ℕ
@@ -40,9 +48,6 @@ pub record Written (w : List ℕ) (start : ℕ) (set : List Bool) (found out : L
   pub number : k ≡ count (take s set)
   pub size : length (rows_before w start set s) ≡ row_words * k
   pub holds : out ≡ sets found 2 (rows_before w start set s)
-
-pub written-length : {w : List ℕ} {start : ℕ} {set : List Bool} {found out : List ℕ} {k s : ℕ} → Written w start set found out k s → length out ≡ length found
-written-length {w} {start} {set} {found} {out} {k} {s} r = ap length r.holds ∙ length-sets found 2 (rows_before w start set s)
 
 -- the same of what equals
 pub written_same : {w : List ℕ} {start : ℕ} {set : List Bool} {found out : List ℕ} {k s : ℕ} (found' out' : List ℕ) (k' s' : ℕ)
@@ -71,18 +76,26 @@ module _ (w : List ℕ) (legal : refusal w ≡ 0) (start : ℕ) (low : start < s
       let n = (legal-sized w legal).few-states in
       ap length is ∙ length-append keep (replicate (most_states - states w) false) ∙ (let r = length-replicate {A = Bool} (most_states - states w) false in omega arith)
 
-  set-take : (s : ℕ) → s ≤ states w → take s set ≡ take s keep
-  set-take s h =
-      let l = reached-size w start in
-      ap (take s) is ∙ take-append-le s keep (replicate (most_states - states w) false) (omega arith)
-
   -- the first n flags of the set are the reached states
   set-whole : take (states w) set ≡ keep
   set-whole = ap (take (states w)) is ∙ reached-front w start (replicate (most_states - states w) false)
 
-  module _ (numbers : List ℕ) (new : (s : ℕ) → s ≤ states w → get_or numbers s 0 ≡ count (take s set)) where
-    named : (s : ℕ) → s ≤ states w → get_or numbers s 0 ≡ count (take s keep)
-    named s h = new s h ∙ ap count (set-take s h)
+  module _ (names : List (Option ℕ)) (named : names ≡ number_from 0 set) where
+    -- the set's names are those of the reached states
+    alike : (u : ℕ) → get_or names u None ≡ get_or (number_from 0 keep) u None
+    alike u =
+        ap (λ (l : List (Option ℕ)). get_or l u None) (named ∙ ap (number_from 0) is ∙ number-padded 0 keep (most_states - states w))
+        ∙ padding-at None (number_from 0 keep) (most_states - states w) u
+
+    row-named : (s : ℕ) → new_row (table_of w) names s ≡ renamed_row w start s
+    unfolding renamed
+    row-named s =
+        row_is (table_of w) names s
+        ∙ (λ i. state_words (record {
+          steps = map (λ o. elim o [ None ↦ None | Some u ↦ alike u i ]) (first_state (table_of w) s).steps;
+          accept = (first_state (table_of w) s).accept;
+          early = (first_state (table_of w) s).early;
+        }))
 
     module _ (found out : List ℕ) (k s : ℕ) (h : s < states w) (r : Written w start set found out k s) where
       inside : s < length set
@@ -103,26 +116,24 @@ module _ (w : List ℕ) (legal : refusal w ≡ 0) (start : ℕ) (low : start < s
           }
 
       -- a reached state's row is written as row k
-      pub written_in : In set s → Written w start set found (sets out (graph_place k 0) (new_row (table_of w) numbers s)) (k + 1) (s + 1)
+      pub written_in : In set s → Written w start set found (sets out (graph_place k 0) (new_row (table_of w) names s)) (k + 1) (s + 1)
       unfolding rows_before
       written_in e =
           let rows = rows_before w start set s in
-          let l = reached-size w start in
-          let i : In keep s = sym (ap (λ (x : List Bool). get_or x s false) is ∙ get_or-append keep (replicate (most_states - states w) false) false s (omega arith)) ∙ e in
-          let row : new_row (table_of w) numbers s ≡ renamed_row w start s = row_is w legal start low numbers named s i in
+          let row = row-named s in
           let more : rows_before w start set (s + 1) ≡ rows ++ renamed_row w start s =
           ap (flat_map (renamed_row w start)) (members-in set s inside e) ∙ flat_map-one (renamed_row w start) (members set s) s in
           let z = r.size in
           let b = r.small in
           let c = count-take-in set s e in
           let n = r.number in
-          let wide : length (renamed_row w start s) ≡ row_words = ap length (sym row) ∙ row-length w (legal-sized w legal) numbers s h in
+          let wide : length (renamed_row w start s) ≡ row_words = ap length (sym row) ∙ row-length w (legal-sized w legal) names s h in
           record {
             small = omega arith;
             number = omega arith;
             size = ap length more ∙ length-append rows (renamed_row w start s) ∙ omega arith;
             holds =
-                ap (λ (x : List ℕ). sets x (graph_place k 0) (new_row (table_of w) numbers s)) r.holds
+                ap (λ (x : List ℕ). sets x (graph_place k 0) (new_row (table_of w) names s)) r.holds
                 ∙ ap (sets (sets found 2 rows) (graph_place k 0)) row
                 ∙ ap (λ (p : ℕ). sets (sets found 2 rows) p (renamed_row w start s)) (omega arith)
                 ∙ sym (sets-append found 2 rows (renamed_row w start s))
@@ -157,35 +168,32 @@ module _ (w : List ℕ) (legal : refusal w ≡ 0) (start : ℕ) (low : start < s
       (reached-size w start ∙ sym (size_is w) ∙ sym (length-map (below (size (table_of w))) (first_state (table_of w)) ∙ length-tab 0 (size (table_of w)) (λ x. x)))
       ∙ ap count (sym set-whole)
 
-  root_is : graph.root ≡ count (take start set)
+  root_is : (names : List (Option ℕ)) → names ≡ number_from 0 set → unwrap_or (get_or names start None) 0 ≡ graph.root
   unfolding restrict relabel whole_graph
-  root_is =
-      ap (λ (o : Option ℕ). unwrap_or o 0) (number-count 0 keep start (found_in w legal start low start (found-start w legal start low)))
-      ∙ (let z : 0 + count (take start keep) ≡ count (take start keep) = omega arith in z)
-      ∙ ap count (sym (set-take start (omega arith)))
+  root_is names named = ap (λ (o : Option ℕ). unwrap_or o 0) (alike names named start)
 
-  -- with the words in front and the zeros after them
-  pub written_all_lem : (buffer out : List ℕ) (k : ℕ) (head root : ℕ) → head ≡ count (take (states w) set) → root ≡ count (take start set)
-      → graph_size (states w) ≤ length buffer → Written w start set (sets buffer 0 (head ∷ (root ∷ []))) out k (states w)
-      → sets out (graph_place k 0) (replicate (graph_place (states w) 0 - graph_place k 0) 0) ≡ written_on (states w) graph buffer
+  -- with the zeros after them and the words in front
+  pub written_all_lem : (buffer out : List ℕ) (k root : ℕ) (names : List (Option ℕ)) → names ≡ number_from 0 set → root ≡ unwrap_or (get_or names start None) 0
+      → graph_size (states w) ≤ length buffer → Written w start set buffer out k (states w)
+      → sets (sets out (graph_place k 0) (replicate (graph_place (states w) 0 - graph_place k 0) 0)) 0 (k ∷ (root ∷ [])) ≡ written_on (states w) graph buffer
   unfolding graph_buffer graph_words
-  written_all_lem buffer out k head root a b room r =
+  written_all_lem buffer out k root names named b room r =
       let rows = rows_before w start set (states w) in
       let zeros : List ℕ = replicate (graph_place (states w) 0 - graph_place k 0) 0 in
-      let text = (head ∷ (root ∷ rows)) ++ zeros in
       let n = r.number in
       let s = r.small in
       let z = r.size in
       let l = states-are in
-      let t : length text ≡ graph_size (states w) =
-      length-append (head ∷ (root ∷ rows)) zeros ∙ (let e = length-replicate {A = ℕ} (graph_place (states w) 0 - graph_place k 0) 0 in omega arith) in
-      ap (λ (x : List ℕ). sets x (graph_place k 0) zeros) (r.holds ∙ sym (sets-append buffer 0 (head ∷ (root ∷ [])) rows))
-      ∙ ap (λ (p : ℕ). sets (sets buffer 0 (head ∷ (root ∷ rows))) p zeros) (omega arith)
-      ∙ sym (sets-append buffer 0 (head ∷ (root ∷ rows)) zeros)
-      ∙ sets-front buffer text (omega arith)
-      ∙ ap (λ (p : ℕ). text ++ drop p buffer) t
+      let head : k ≡ length graph.states = omega arith in
+      let t : 2 + length (rows ++ zeros) ≡ graph_size (states w) =
+      (let a = length-append rows zeros in let e = length-replicate {A = ℕ} (graph_place (states w) 0 - graph_place k 0) 0 in omega arith) in
+      ap (λ (x : List ℕ). sets (sets x (graph_place k 0) zeros) 0 (k ∷ (root ∷ []))) r.holds
+      ∙ ap (λ (p : ℕ). sets (sets (sets buffer 2 rows) p zeros) 0 (k ∷ (root ∷ []))) (omega arith)
+      ∙ ap (λ (x : List ℕ). sets x 0 (k ∷ (root ∷ []))) (sym (sets-append buffer 2 rows zeros))
+      ∙ front-late buffer (rows ++ zeros) k root (omega arith)
+      ∙ ap (λ (p : ℕ). (k ∷ (root ∷ (rows ++ zeros))) ++ drop p buffer) t
       ∙ ap (λ (x : List ℕ). x ++ drop (graph_size (states w)) buffer)
-      (λ i. ((a ∙ sym l) i ∷ ((b ∙ sym root_is) i ∷ rows_are i)) ++ replicate (zero-count i) 0)
+      (λ i. (head i ∷ ((b ∙ root_is names named) i ∷ rows_are i)) ++ replicate (zero-count i) 0)
     where
       zero-count : graph_place (states w) 0 - graph_place k 0 ≡ row_words * (states w - length graph.states)
       zero-count = let n = r.number in let l = states-are in omega arith

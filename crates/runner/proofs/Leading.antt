@@ -1,5 +1,5 @@
 -- How a byte is led on by a state's plan words: the tests that they name are the ones that decide. Assumes nothing.
-use Rattle.std.proofs.Common.{◌≡◌, refl, sym, ap, subst, ◌∙◌, Bool, true, false, cond, List, [], ◌∷◌, ℕ, zero, suc, ◌+◌, ◌≤◌, ◌<◌, length, get_or, take, arith, Option, Some, None, IfSome, MatchOption, slice_get, eqb, eqb-true}
+use Rattle.std.proofs.Common.{◌≡◌, refl, sym, ap, subst, ◌∙◌, Bool, true, false, cond, List, [], ◌∷◌, ℕ, zero, suc, ◌+◌, ◌≤◌, ◌<◌, length, get_or, arith, Option, Some, None, IfSome, MatchOption, slice_get, unwrap_or, eqb, eqb-true}
 use Rattle.std.proofs.lemmas.Bool.{eqb-false}
 use Rattle.lists.proofs.Bools.{Is, yes-is, no-is, is}
 use Rattle.graph_rules.specs.Layout.{most_states}
@@ -157,7 +157,7 @@ module _ (p : Planned) where
               takes-by x (λ q. let m = missing q in absurd (omega arith))
               (λ u q.
               rw z
-              (h ∙ ap (λ x. some_holds x b) ((p.prepared s j u inside l (no_table g p.plan.now p.plan_on s inside plain) q).1 (edge-compared g p.plan.now p.plan_on s inside plain j l z q))))
+              (h ∙ ap (λ x. some_holds x b) (((p.prepared s j inside l).1 (no_table g p.plan.now p.plan_on s inside plain) u q (edge-compared g p.plan.now p.plan_on s inside plain j l z q)))))
 
           pub takes-mask : {i : ℕ} → Mask i ≡ edge_said word → {x : Bool} → x ≡ mask_has p.tables.now i b → Takes x
           takes-mask {i} e {x} h =
@@ -172,7 +172,7 @@ module _ (p : Planned) where
               go : (o : Option ℕ) → slice_get ts j ≡ o → MatchOption o (x ≡ false) (λ u. x ≡ edge_takes p.tables.now st u word b)
                   → Some (get_or p.edges.now (edge_at s j) no_edge).target ≡ led_along p.tables.now st o word b
               go None q k = let z : true ≡ false = sym e ∙ k in cc
-              go (Some u) q k = rw (sym k ∙ e) (ap (λ (m : ℕ). Some m) (p.prepared s j u inside l (no_table g p.plan.now p.plan_on s inside plain) q).0)
+              go (Some u) q k = rw (sym k ∙ e) (ap (λ (m : ℕ). Some m) ((p.prepared s j inside l).0 ∙ ap (λ (x : Option ℕ). unwrap_or x 0) q))
 
           pub leads-not : {x : Bool} → Takes x → x ≡ false → None ≡ led_along p.tables.now st (slice_get ts j) word b
           leads-not {x} t e = go (slice_get ts j) t

@@ -1,5 +1,5 @@
 -- What is known of the plan words of a state where some classes, no matter which, give the words. Assumes nothing.
-use Rattle.std.proofs.Common.{◌≡◌, [], ◌∷◌, false, List, ℕ, suc, ◌+◌, ◌≤◌, ◌<◌, length, get_or, Some, None, slice_get}
+use Rattle.std.proofs.Common.{◌≡◌, [], ◌∷◌, false, List, ℕ, ◌+◌, ◌≤◌, ◌<◌, length, get_or, Some, None, slice_get}
 use Rattle.std.proofs.Math.Logic.{∥∥₁_elim}
 use Rattle.std.proofs.Props.{props}
 use Rattle.graph_rules.specs.Graph.{Graph, state_of, to}

@@ -1,5 +1,6 @@
 -- The edges of the states prepared one after another, and an edge as it is kept. Assumes nothing.
-use Rattle.std.proofs.Common.{◌≡◌, refl, sym, ap, ◌∙◌, true, false, List, [], ◌∷◌, ℕ, zero, suc, ◌+◌, ◌≤◌, ◌<◌, length, get_or, take, arith, Option, Some, None, IfSome, slice_get, below_more, eqb, ltb, ltb-false}
+use Rattle.std.proofs.Common.{◌≡◌, refl, ap, ◌∙◌, List, [], ◌∷◌, ℕ, zero, suc, ◌+◌, ◌≤◌, ◌<◌, length, get_or, take, arith, Option, None, slice_get, set, length-set, below_more, eqb, ltb, ltb-false}
+use Rattle.std.proofs.lemmas.List.{get_or-set_same, get_or-set_other}
 use Rattle.lists.proofs.Bools.{Is, yes-is, no-is, is}
 use Rattle.graph_rules.specs.Graph.{State, Graph}
 use Rattle.classes.specs.Classes.{Class, comparisons, cost}
@@ -8,11 +9,7 @@ use Rattle.classes.specs.declared.byte_class.Comparisons.{Comparisons}
 use Rattle.classes.proofs.Few.{few-comparisons, few-exceptions, laid-long, listed-front}
 use Rattle.edges.specs.Edges.{class_to}
 use Rattle.plan_rules.specs.declared.Way.TheVariants.{BySelf, ByTests, ByMask}
-use Rattle.plan_rules.specs.Plan.{base, by_table, way_to}
-use Rattle.plan_rows.specs.declared.fork.Edges.TheVariants.{ByTable, Each}
-use Rattle.plan_rows.specs.declared.fork.Fork.{Fork}
-use Rattle.plan_rows.specs.Fork.{fork_of}
-use Rattle.plan_rows.proofs.Forks.{fork-table, fork-each}
+use Rattle.plan_rules.specs.Plan.{base, way_to}
 use Rattle.runner.specs.declared.edge.Edge.{Edge}
 use Rattle.runner.specs.Prepared.{no_edge, targets_of, edge_at, edges_size, EdgeIs, Prepared}
 
@@ -52,47 +49,33 @@ tests-kept st s u {class} {laid} read way same d =
 
 pub record PreparedTo (g : Graph) (n : ℕ) (edges : List Edge) : Type 0 where
   pub size : length edges ≡ edges_size
-  pub are : (s : ℕ) → s < n → (j u : ℕ) → j < base.edges → by_table base (targets_of g s) ≡ false → slice_get (targets_of g s) j ≡ Some u
-      → EdgeIs g s u (get_or edges (edge_at s j) no_edge)
-
-pub prepared-none : (g : Graph) (edges : List Edge) → length edges ≡ edges_size → PreparedTo g 0 edges
-prepared-none g edges a = record { size = a; are = λ s h. absurd (omega arith) }
+  pub are : (s : ℕ) → s < n → (j : ℕ) → j < base.edges → EdgeIs g s (slice_get (targets_of g s) j) (get_or edges (edge_at s j) no_edge)
 
 pub prepared-all : {g : Graph} {n : ℕ} {edges : List Edge} → length g.states ≤ n → PreparedTo g n edges → Prepared g edges
-prepared-all all p = λ s j u h. p.are s (omega arith) j u
+prepared-all all p = λ s j h. p.are s (omega arith) j
 
--- ---- the next state
+-- both edges of the next state are kept
+pub prepared-next : {g : Graph} {s : ℕ} {edges : List Edge} → PreparedTo g s edges → edge_at s 1 < edges_size → {lowest : List (Option ℕ)}
+    → lowest ≡ slice_get (targets_of g s) 0 ∷ slice_get (targets_of g s) 1 ∷ [] → (e f : Edge)
+    → EdgeIs g s (get_or lowest 0 None) e → EdgeIs g s (get_or lowest 1 None) f → PreparedTo g (s + 1) (set (set edges (edge_at s 0) e) (edge_at s 1) f)
+prepared-next {g} {s} {edges} p room {lowest} is-lowest e f first second =
+    record { size = length-set (set edges (edge_at s 0) e) (edge_at s 1) f ∙ length-set edges (edge_at s 0) e ∙ p.size; are = below_more Kept s before here }
+  where
+    after : List Edge
+    after = set (set edges (edge_at s 0) e) (edge_at s 1) f
 
-module _ {g : Graph} {s : ℕ} {edges : List Edge} (p : PreparedTo g s edges) {fork : Fork} (is-fork : fork ≡ fork_of g s) where
-  pub prepared-table : fork.edges ≡ ByTable → PreparedTo g (s + 1) edges
-  prepared-table e =
-      record {
-        size = p.size;
-        are = below_more (λ t. (j u : ℕ) → j < base.edges → by_table base (targets_of g t) ≡ false → slice_get (targets_of g t) j ≡ Some u → EdgeIs g t u (get_or edges (edge_at t j) no_edge))
-            s p.are (λ j u l n. let y = fork-table g s is-fork e in let z : true ≡ false = sym y ∙ n in cc);
-      }
+    Kept : ℕ → Type 0
+    Kept t = (j : ℕ) → j < base.edges → EdgeIs g t (slice_get (targets_of g t) j) (get_or after (edge_at t j) no_edge)
 
-  -- both edges are kept, one after the other
-  pub prepared-each : {l : List (Option ℕ)} → fork.edges ≡ Each l → (mid after : List Edge)
-      → IfSome (get_or l 0 None) (λ u. EdgeIs g s u (get_or mid (edge_at s 0) no_edge)) → ((i : ℕ) → (i ≡ edge_at s 0 → ⊥) → get_or mid i no_edge ≡ get_or edges i no_edge)
-      → IfSome (get_or l 1 None) (λ u. EdgeIs g s u (get_or after (edge_at s 1) no_edge)) → ((i : ℕ) → (i ≡ edge_at s 1 → ⊥) → get_or after i no_edge ≡ get_or mid i no_edge)
-      → length after ≡ edges_size → PreparedTo g (s + 1) after
-  prepared-each {l} e mid after first others second others' long =
-      record {
-        size = long;
-        are = below_more (λ t. (j u : ℕ) → j < base.edges → by_table base (targets_of g t) ≡ false → slice_get (targets_of g t) j ≡ Some u → EdgeIs g t u (get_or after (edge_at t j) no_edge))
-            s before here;
-      }
-    where
-      lowest : l ≡ slice_get (targets_of g s) 0 ∷ slice_get (targets_of g s) 1 ∷ []
-      lowest = (fork-each g s is-fork e).1
+    before : (t : ℕ) → t < s → Kept t
+    before t h j k =
+        rw (get_or-set_other (set edges (edge_at s 0) e) (edge_at s 1) (edge_at t j) f no_edge (λ q. omega arith), get_or-set_other edges (edge_at s 0) (edge_at t j) e no_edge (λ q. omega arith))
+        (p.are t h j k)
 
-      before : (t : ℕ) → t < s → (j u : ℕ) → j < base.edges → by_table base (targets_of g t) ≡ false → slice_get (targets_of g t) j ≡ Some u → EdgeIs g t u (get_or after (edge_at t j) no_edge)
-      before t h j u k few there =
-          rw (others' (edge_at t j) (λ q. omega arith) ∙ others (edge_at t j) (λ q. omega arith)) (p.are t h j u k few there)
-
-      here : (j u : ℕ) → j < base.edges → by_table base (targets_of g s) ≡ false → slice_get (targets_of g s) j ≡ Some u → EdgeIs g s u (get_or after (edge_at s j) no_edge)
-      here zero u k few there =
-          rw (others' (edge_at s 0) (λ q. omega arith)) (rw (ap (λ (x : List (Option ℕ)). get_or x 0 None) lowest ∙ there) at first)
-      here (suc zero) u k few there = rw (ap (λ (x : List (Option ℕ)). get_or x 1 None) lowest ∙ there) at second
-      here (suc (suc j)) u k few there = absurd (omega arith)
+    here : Kept s
+    here zero k =
+        rw (get_or-set_other (set edges (edge_at s 0) e) (edge_at s 1) (edge_at s 0) f no_edge (λ q. omega arith), get_or-set_same edges (edge_at s 0) e no_edge (omega (arith, p.size)))
+        (rw is-lowest at first)
+    here (suc zero) k =
+        rw (get_or-set_same (set edges (edge_at s 0) e) (edge_at s 1) f no_edge (omega (arith, length-set edges (edge_at s 0) e, p.size))) (rw is-lowest at second)
+    here (suc (suc j)) k = absurd (omega arith)

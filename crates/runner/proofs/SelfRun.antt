@@ -1,34 +1,28 @@
 -- The bytes that a self run passes, and that the run by a plan passes them too. Assumes nothing.
-use mathlib.Core.Path.{◌≡◌, refl, ap, ◌∙◌}
-use mathlib.Core.Bool.{Bool, true}
+use mathlib.Core.Path.{◌≡◌, ap, ◌∙◌}
+use mathlib.Core.Bool.{Bool, true, false}
 use mathlib.Core.List.{List, []}
 use Prim.Native.Nat.{ℕ, zero, suc, ◌+◌, ◌-◌, ◌≤◌, ◌<◌}
 use native.Mathlib.Omega.{arith}
 use lib.ListN.{length, get_or, drop}
 use lib.Seq.{drop-cons}
-use Rattle.bits.specs.Bits.{is_set}
 use Rattle.graph_rules.specs.Graph.{Graph}
 use Rattle.graph_rules.specs.Read.{Reading}
-use Rattle.mask_store.specs.Layout.{mask_table, mask_bit, entry_place}
-use Rattle.mask_store.specs.Masks.{mask_has}
-use Rattle.std.specs.Prelude.{Some, None}
+use Rattle.std.specs.Prelude.{Option, Some, None, unwrap_or, MatchOption}
 use Rattle.plan_rules.specs.Plan.{own_said}
 use Rattle.plan_rules.specs.Run.{self_of, self_takes, run_from}
 
--- the bit that is tested is the mask's
-pub read-bit : (tables text : List ℕ) (i k b : ℕ) (r : Bool) → b ≡ get_or text k 0 → r ≡ is_set (mask_bit i) (get_or tables (entry_place (mask_table i) b) 0)
-    → r ≡ mask_has tables i (get_or text k 0)
-unfolding mask_has
-read-bit tables text i k b r e f = f ∙ ap (λ (x : ℕ). is_set (mask_bit i) (get_or tables (entry_place (mask_table i) x) 0)) e
+-- where the search for a byte that does not pass stands: at the first, or at the end
+pub stood : (p : ℕ → Bool) (from n : ℕ) (r : Option ℕ)
+    → MatchOption r ((k : ℕ) → from ≤ k → k < n → p k ≡ true) (λ k. (from ≤ k) × (k < n) × (p k ≡ false) × ((j : ℕ) → from ≤ j → j < k → p j ≡ true))
+    → ((j : ℕ) → j < unwrap_or r n → from ≤ j → p j ≡ true) × (unwrap_or r n < n → p (unwrap_or r n) ≡ false)
+stood p from n None f = (λ j h l. f j l h, λ h. absurd (omega arith))
+stood p from n (Some k) (l, h, e, f) = (λ j h l. f j l h, λ z. e)
 
 -- what a self word says
 pub own-mask : (w : ℕ) {i : ℕ} → Some i ≡ own_said w → w ≡ suc i
 own-mask zero e = cc
 own-mask (suc k) e = cc
-
-pub own-none : (w : ℕ) → None ≡ own_said w → w ≡ 0
-own-none zero e = refl
-own-none (suc k) e = cc
 
 -- bytes that the self word takes are passed by the run, which stays where it is
 module _ (g : Graph) (rows : List (List ℕ)) (tables text : List ℕ) (s w : ℕ) (word : self_of (get_or rows s []) ≡ w) where

@@ -1,6 +1,7 @@
--- What is worked out of a graph before texts are run by its plan: the targets of each state's first two edges, and the comparisons of those that
--- are tested by them, where these edges are tested one by one; of which plan words a run is asked; and where an edge leads a byte. Definitions only.
-use Rattle.std.specs.Prelude.{◌≡◌, true, false, cond, Option, Some, None, List, [], ℕ, ◌+◌, ◌*◌, ◌<◌, ◌≤◌, length, get_or, take, slice_get}
+-- What is worked out of a graph before texts are run by its plan: the targets of each state's first two edges, and, where its edges are tested one by
+-- one, the comparisons of those that are tested by them; of which plan words a run is asked; and where an edge leads a byte. Definitions only.
+use Rattle.std.specs.Prelude.{◌≡◌, true, false, cond, Option, Some, None, List, [], ℕ, ◌+◌, ◌*◌, ◌<◌, ◌≤◌, length, get_or, take, slice_get, unwrap_or}
+use Rattle.std.specs.Option.{ForSome}
 use Rattle.lists.specs.Lists.{all_l}
 use Rattle.graph_rules.specs.Layout.{most_states}
 use Rattle.graph_rules.specs.Graph.{State, Graph, state_of}
@@ -32,16 +33,14 @@ edge_at s j = base.edges * s + j
 abbrev pub edges_size : ℕ
 edges_size = base.edges * most_states
 
--- the edge from state s to u is kept as e
-abbrev pub EdgeIs : Graph → ℕ → ℕ → Edge → Type 0
-EdgeIs g s u e =
-    (e.target ≡ u)
-    × (way_to base (state_of g s) s u ≡ ByTests → tests_of e ≡ comparisons (class_to (state_of g s) u))
+-- the edge from state s to its target t is kept as e; 0 is the target where there is none, and a state that is run by a table needs no comparisons
+abbrev pub EdgeIs : Graph → ℕ → Option ℕ → Edge → Type 0
+EdgeIs g s t e =
+    (e.target ≡ unwrap_or t 0)
+    × (by_table base (targets_of g s) ≡ false → ForSome t (λ u. way_to base (state_of g s) s u ≡ ByTests → tests_of e ≡ comparisons (class_to (state_of g s) u)))
 
 abbrev pub Prepared : Graph → List Edge → Type 0
-Prepared g edges =
-    (s j u : ℕ) → s < length g.states → j < base.edges → by_table base (targets_of g s) ≡ false → slice_get (targets_of g s) j ≡ Some u
-    → EdgeIs g s u (get_or edges (edge_at s j) no_edge)
+Prepared g edges = (s j : ℕ) → s < length g.states → j < base.edges → EdgeIs g s (slice_get (targets_of g s) j) (get_or edges (edge_at s j) no_edge)
 
 -- the words begin with the plan that some classes give, at most 64, and name none but these
 pub record PlanOn (g : Graph) (words : List ℕ) : Type 0 where

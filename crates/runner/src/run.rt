@@ -5,16 +5,15 @@ ghost use Rattle.plan_rules.specs.Plan.{base};
 ghost use Rattle.plan_rules.specs.Run.{run_from, rows_of};
 
 use crate::planned::Planned;
-use graph_rules::Found;
 use readings::walk::{Last, Walker, ended};
 
 impl Planned<'_> {
     // The last record of the run.
-    pub fn run(&self, text: &[u8]) -> Option<Found>
+    pub fn run(&self, text: &[u8]) -> Last
         ensures { result ≡ run_from (graph_from self.now.graph.words.now) (rows_of base (graph_from self.now.graph.words.now) self.now.plan.now) self.now.tables.now (graph_from self.now.graph.words.now).root 0 None text.now }
     {
         if self.graph.states() == 0 {
-            return None;
+            return Last::none();
         }
         let mut last = Last::none();
         let mut s = self.graph.root();
@@ -27,7 +26,7 @@ impl Planned<'_> {
                 return ended(&self.graph, s, j, last);
             }
             let Some(t) = self.step(s, text[j]) else {
-                return last.reading();
+                return last;
             };
             s = t;
             k = j + 1;

@@ -17,12 +17,9 @@ fn self_run(tables: &[u8; SIZE], i: usize, text: &[u8], from: usize) -> usize
 {
     let base = TABLE_SIZE * (i / TABLE_MASKS);
     let bit = i % TABLE_MASKS;
-    for k in from..text.len() {
-        if !bits::test_bit(tables[base + text[k] as usize], bit) {
-            return k;
-        }
-    }
-    text.len()
+    (from..text.len())
+        .find(|k| !bits::test_bit(tables[base + text[*k] as usize], bit))
+        .unwrap_or(text.len())
 }
 
 impl Planned<'_> {

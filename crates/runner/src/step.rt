@@ -14,7 +14,9 @@ use plan_rows::layout;
 use plan_rules::EdgeWord;
 
 impl Planned<'_> {
-    // Whether the test that the plan names for edge j of state s takes the byte; of no edge it names none.
+    // Whether the test that the plan names for edge j of state s takes the byte; of no edge it names none. (A row's words are a table's both or neither,
+    // and `step` looks at the first. A type of rows without a table would be made of the same words again at each byte.)
+    #[inline(always)]
     fn takes(&self, s: usize, j: usize, byte: u8) -> bool
         requires s_bound { s < get_or self.now.graph.words.now 0 0 }
         requires j_lt_edges { j < base.edges }
@@ -30,6 +32,7 @@ impl Planned<'_> {
     }
 
     // Where edge j of state s leads the byte, if its test takes it.
+    #[inline(always)]
     fn along(&self, s: usize, j: usize, byte: u8) -> Option<usize>
         requires s_bound { s < get_or self.now.graph.words.now 0 0 }
         requires j_lt_edges { j < base.edges }
@@ -43,7 +46,7 @@ impl Planned<'_> {
         }
     }
 
-    // The state that the byte leads to from state s, if any.
+    // The state that the byte leads to from state s, if any. (No `or_else`: what stands for the second edge would be a closure with a contract of its own.)
     pub(crate) fn step(&self, s: usize, byte: u8) -> Option<usize>
         requires { s < get_or self.now.graph.words.now 0 0 }
         ensures led { result ≡ led_by (graph_from self.now.graph.words.now) (get_or (rows_of base (graph_from self.now.graph.words.now) self.now.plan.now) s []) self.now.tables.now s byte }

@@ -7,7 +7,7 @@ use Prim.Native.Nat.{ℕ, suc, ◌+◌, ◌-◌, ◌*◌, ◌≤◌, ◌<◌}
 use native.Mathlib.Omega.{arith}
 use lib.ListN.{length, drop, length-append}
 use lib.Seq.{sets}
-use Rattle.lists.proofs.Buffers.{Filled, filled_none, filled-run}
+use Rattle.lists.proofs.Buffers.{Filled, filled-run}
 use Rattle.graph_rules.specs.Graph.{Graph}
 use Rattle.graph_rules.specs.Read.{read_graph}
 use Rattle.scans.specs.declared.scan.Piece.{Piece}
@@ -48,22 +48,6 @@ pub record Filling (g : Graph) (text : List ℕ) (from room : ℕ) (found out : 
   pub words : wrote ++ list_words (list_for g text (room - n) (reading_at at)) ≡ list_words (list_for g text room (reading_at from))
   pub count : n + length (list_for g text (room - n) (reading_at at)).entries ≡ length (list_for g text room (reading_at from)).entries
   pub scan : (list_for g text (room - n) (reading_at at)).scan ≡ (list_for g text room (reading_at from)).scan
-
-pub filling-none : (g : Graph) (text : List ℕ) (from room : ℕ) (found : List ℕ) → from ≤ length text → Filling g text from room found found 0 from
-filling-none g text from room found h =
-    record {
-      wrote = [];
-      filled = filled_none found;
-      size = omega arith;
-      few = omega arith;
-      within = h;
-      words = ap (λ (k : ℕ). list_words (list_for g text k (reading_at from))) all;
-      count = let c = ap (λ (k : ℕ). length (list_for g text k (reading_at from)).entries) all in omega arith;
-      scan = ap (λ (k : ℕ). (list_for g text k (reading_at from)).scan) all;
-    }
-  where
-    all : room - 0 ≡ room
-    all = omega arith
 
 module _ (g : Graph) (text : List ℕ) (from room : ℕ) (found out : List ℕ) (n at : ℕ) (f : Filling g text from room found out n at) where
   abbrev whole : Listing

@@ -3,22 +3,22 @@ ghost use Rattle.std.specs.Prelude.{◌≡◌, List, ℕ};
 ghost use Rattle.graph_rules.specs.Graph.{graph_from};
 ghost use Rattle.graph_rules.specs.Read.{read_graph};
 
-use graph_rules::Found;
+use readings::walk::Last;
 use words::graph::Graph;
 
 pub trait Reader {
     // The graph's words.
     ghost words: { Self → List ℕ };
 
-    // The reading of a text.
-    fn read(&self, text: &[u8]) -> Option<Found>
+    // The reading of a text, as a walk hands it out.
+    fn read(&self, text: &[u8]) -> Last
         ensures { result ≡ read_graph (graph_from (words self.now)) text.now };
 }
 
 impl Reader for Graph<'_> {
     ghost words = { λ g. g.words.now };
 
-    fn read(&self, text: &[u8]) -> Option<Found> {
+    fn read(&self, text: &[u8]) -> Last {
         readings::read::read(*self, text)
     }
 }

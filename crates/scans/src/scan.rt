@@ -9,6 +9,7 @@ use graph_rules::Found;
 use refusals::Refusal;
 use words::graph::Graph;
 
+// Where a scan is. (No Option: reading or ended, two words of the project, docs/DECISIONS.md, 36.)
 #[derive(Clone, Copy, PartialEq, Eq)]
 pub enum Place {
     Reading(usize),
@@ -52,6 +53,19 @@ impl Piece {
     }
 }
 
+// The gap at an offset below the length. Gaps are few: out of the way, they do not make the end of a token wait for a choice.
+#[cold]
+#[inline(never)]
+fn gap(text: &[u8], at: usize) -> Piece
+    requires { at < length text.now }
+    ensures { result ≡ gap_at text.now at }
+{
+    Piece::Gap {
+        start: at,
+        end: at + 1,
+    }
+}
+
 // The token or gap at an offset below the length, by a reading from there on, which ends in the text.
 fn entry_by(text: &[u8], at: usize, reading: Option<Found>) -> Piece
     requires at_in_bounds { at < length text.now }
@@ -64,10 +78,7 @@ fn entry_by(text: &[u8], at: usize, reading: Option<Found>) -> Piece
             start: at,
             end: at + found.end,
         },
-        _ => Piece::Gap {
-            start: at,
-            end: at + 1,
-        },
+        _ => gap(text, at),
     }
 }
 
@@ -76,7 +87,7 @@ pub(crate) fn entry<R: Reader>(reader: &R, text: &[u8], at: usize) -> Piece
     requires { at < length text.now }
     ensures { result ≡ entry_of text.now at (read_graph (graph_from (R.words reader.now)) (drop at text.now)) }
 {
-    entry_by(text, at, reader.read(&text[at..]))
+    entry_by(text, at, reader.read(&text[at..]).reading())
 }
 
 impl Scan {

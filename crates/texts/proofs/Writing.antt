@@ -6,7 +6,7 @@ use native.Mathlib.Nat.{add-zero}
 use native.Mathlib.Omega.{arith}
 use native.Mathlib.Numerals.{add-one}
 use lib.ListN.{length, get_or, take, drop, length-append}
-use lib.Seq.{sets, length-sets, take-suc, length-take-le}
+use lib.Seq.{sets, take-suc, length-take-le}
 use Rattle.lists.proofs.Buffers.{sets-append, sets-front}
 use Rattle.texts.specs.Text.{Wrote, Counts, one}
 
@@ -25,10 +25,6 @@ wrote_then {found} {text} {mid} {more} {out} {at} {next} {end} a b =
 -- the same text, said otherwise
 pub wrote_as : {found text other out : List ℕ} {at next : ℕ} → text ≡ other → Wrote found at text out next → Wrote found at other out next
 wrote_as {found} {text} {other} {out} {at} {next} e a = subst (λ (t : List ℕ). Wrote found at t out next) e a
-
--- the buffer keeps its length
-pub wrote-length : {found text out : List ℕ} {at next : ℕ} → Wrote found at text out next → length out ≡ length found
-wrote-length {found} {text} {out} {at} a = ap length a.buffer ∙ length-sets found at text
 
 -- from the front, where there is room: the text, and the rest unchanged
 module _ (text : List ℕ) {found out : List ℕ} {next : ℕ} (a : Wrote found 0 text out next) where
@@ -77,11 +73,3 @@ ends u = wrote_as (sym (append-nil u.text) ∙ u.whole) u.wrote
 -- what is to come, said otherwise
 pub underway-as : {found total rest other out : List ℕ} {at next : ℕ} → rest ≡ other → Underway found at total rest out next → Underway found at total other out next
 underway-as {found} {total} {rest} {other} {out} {at} {next} e u = subst (λ (r : List ℕ). Underway found at total r out next) e u
-
--- the last part
-pub ends_with : (part : List ℕ) {found total mid out : List ℕ} {at next end : ℕ} → Underway found at total part mid next → Wrote mid next part out end
-    → Wrote found at total out end
-ends_with part u w = wrote_as u.whole (wrote_then u.wrote w)
-
-pub last-counts : (part : List ℕ) {found total mid : List ℕ} {at next : ℕ} → Underway found at total part mid next → Counts at total → Counts next part
-last-counts part {at = at} u h = counts-then at u.text part (subst (Counts at) (sym u.whole) h) u.wrote

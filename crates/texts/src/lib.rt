@@ -3,6 +3,9 @@
 //
 // Buffer and place stay two parameters: a struct around the `&mut` would have each contract say both of what it lends and of itself, and read no plainer.
 //
+// No Display and no `write!`: what passes the end is counted and not written, so that the run that measures is the one that writes, and refusal 29 leaves
+// the buffer as it was; and the contracts say each byte.
+//
 // Texts and the writing of them are defined in specs/Text.antt; texts written one after another are in proofs/Writing.antt, how many digits a number
 // has at most in proofs/Decimals.antt, texts with separators in proofs/Joins.antt.
 #![tactic(auto)]

@@ -36,9 +36,6 @@ module _ (k : ℕ) (h : k < kind_count) where
   pub one-child : repetition_kind ≤ k → k < concat_kind → (rule_of k).children ≡ One
   one-child l u = rule-children ∙ simp (le-ltb k repetition_kind l, lt-ltb k concat_kind u)
 
-  pub any-children : concat_kind ≤ k → (rule_of k).children ≡ Any
-  any-children l = let four : repetition_kind ≤ k = omega arith in rule-children ∙ simp (le-ltb k repetition_kind four, le-ltb k concat_kind l)
-
 -- ---- a kind that is decoded
 
 pub kind-below : (kind : Kind) → kind_number kind < kind_count

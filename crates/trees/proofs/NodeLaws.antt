@@ -21,12 +21,6 @@ module _ (self : Node) (r : Record) (e : r ≡ record_of self.tree.now.words.now
   rules : RecordRules self.tree.now.words.now (length self.tree.now.bytes.now) self.number r
   rules = rw e (rules-of self.tree.now.words.now self.tree.now.bytes.now self.tree.now.fits self.number self.some self.there)
 
-  pub child-lower : r.child < self.number
-  child-lower = rules.child
-
-  pub next-lower : r.next < self.number
-  next-lower = rules.next
-
   pub child-in : r.child ≤ count self.tree.now.words.now
   child-in = omega (arith, rules.child, self.there)
 

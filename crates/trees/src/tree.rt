@@ -14,7 +14,7 @@ pub const RECORDS: usize = 1024;
 // Their numbers, from 1, and 0, which names none.
 pub const NUMBERS: usize = RECORDS + 1;
 
-// A record, as its words say it: unchecked, so its kind is a number still.
+// A record, as its words say it: unchecked, so its kind is a number still, and `child` and `next` are 0 for none; `nodes` makes Options of them.
 #[derive(Clone, Copy)]
 pub struct Record {
     pub kind: u32,
@@ -29,7 +29,7 @@ pub struct Record {
     pub next: usize,
 }
 
-// Record i.
+// Record i. (A number with its bounds, here and below, since the words are judged here; a `Node` has them by type.)
 pub fn record_at(tree: &[u32], i: usize) -> Record
     requires { (0 < i) × (i ≤ count tree.now) }
     ensures { result ≡ record_of tree.now i }
@@ -101,15 +101,10 @@ fn records_fit(tree: &[u32], size: usize) -> bool
     ensures { result ≡ all_l (record_fits tree.now size) (numbers tree.now) }
 {
     let n = tree.len() / WORDS;
-    for i in 1..n + 1 {
-        if !record_fits(tree, size, i) {
-            return false;
-        }
-    }
-    true
+    (1..n + 1).all(|i| record_fits(tree, size, i))
 }
 
-// How often each number is named, as first child or as next.
+// How often each number is named, as first child or as next. (An array: the repository has no heap.)
 fn times_named(tree: &[u32]) -> [u16; NUMBERS]
     requires { Numbered tree.now }
     ensures { result ≡ tab 0 1025 (named tree.now) }
@@ -129,12 +124,7 @@ fn each_once(times: &[u16; NUMBERS], n: usize) -> bool
     requires { n ≤ 1024 }
     ensures { result ≡ all_l (λ i. eqb (get_or times.now i 0) 1) (tab 1 (n - 1) (λ i. i)) }
 {
-    for i in 1..n {
-        if times[i] != 1 {
-            return false;
-        }
-    }
-    true
+    (1..n).all(|i| times[i] == 1)
 }
 
 // Refusal 10 is not due: the words are a tree over these bytes.

@@ -12,12 +12,12 @@ use lib.ListN.{length, get_or, drop, replicate, drop_of_length-le}
 use lib.Seq.{drop-cons}
 use borrow.Author.Tests.{le-leb, lt-leb}
 use Rattle.lists.specs.Lists.{tab}
-use Rattle.lists.proofs.Bools.{and_intro, and-right-false, none-some, some_inj}
+use Rattle.lists.proofs.Bools.{and_intro, and-right-false}
 use Rattle.lists.proofs.Elements.{get_or-tab0}
 use Rattle.utf8.specs.Utf8.{Range, span, within, trail, lines, line_of, width_of, one_more, divided, code_points}
 use Rattle.utf8.specs.Points.{low_of, high_of}
 use Rattle.utf8.proofs.LeadBytes.{due_of, lead-tail}
-use Rattle.utf8.proofs.Division.{begins, passed, let_through, one_less}
+use Rattle.utf8.proofs.Division.{begins, let_through}
 
 -- ---- one byte
 
@@ -132,21 +132,3 @@ module _ (text : List ℕ) where
   unfolding Left divided
   left-short n zero low high i e l h = absurd (e refl)
   left-short n (suc d) low high i e l h = l ∙ ap {B = Option ℕ} (λ (r : List ℕ). plus n (divided (due_of (suc d) low high) r)) (drop_of_length-le text h)
-
--- ---- no more sequences than bytes
-
-line-bound : (l : List Range) (text : List ℕ) (n : ℕ) → (elim l as (λ _. Option ℕ) [ [] ↦ None | r ∷ due ↦ one_more (divided due text) ]) ≡ Some n
-    → ((due : List Range) (m : ℕ) → divided due text ≡ Some m → m ≤ length text) → n ≤ suc (length text)
-line-bound [] text n e f = absurd (none-some e)
-line-bound (r ∷ due) text n e f = let m = one_less (divided due text) n e in let b : m.0 ≤ length text = f due m.0 m.1 in omega (arith, m.2)
-
-divided-bound : (due : List Range) (text : List ℕ) (n : ℕ) → divided due text ≡ Some n → n ≤ length text
-unfolding divided
-divided-bound [] [] n e = let y : 0 ≡ n = some_inj e in omega arith
-divided-bound (r ∷ due) [] n e = absurd (none-some e)
-divided-bound (r ∷ due) (b ∷ text) n e = let h : n ≤ length text = divided-bound due text n (passed (within r b) (divided due text) n e).1 in omega arith
-divided-bound [] (b ∷ text) n e = line-bound (line_of lines b) text n e (λ due m d. divided-bound due text m d)
-
-pub points-bound : (text : List ℕ) (n : ℕ) → code_points text ≡ Some n → n ≤ length text
-unfolding code_points
-points-bound text n e = divided-bound [] text n e

@@ -4,9 +4,9 @@ use mathlib.Core.Bool.{Bool, true, false, not, ◌&&◌, ◌||◌, false≢true}
 use mathlib.Core.List.{List, [], ◌∷◌, ◌++◌}
 use Prim.Native.Nat.{ℕ, zero, suc, ◌<◌, ◌≤◌}
 use native.Mathlib.Omega.{arith}
-use lib.Dec.{eqb, leb, ltb}
+use lib.Dec.{eqb, leb}
 use lib.ListN.{length, get_or, replicate}
-use borrow.Author.Tests.{eq-eqb, eqb-true, ltb-true, leb-true}
+use borrow.Author.Tests.{eq-eqb, eqb-true, leb-true}
 use Rattle.lists.specs.Lists.{tab, all_l, eq_list}
 use Rattle.lists.proofs.Bools.{and_both, and_intro, implied}
 use Rattle.lists.proofs.Any.{any_found}
@@ -24,17 +24,6 @@ table = replicate 128 1 ++ replicate 66 0 ++ replicate 30 2 ++ replicate 16 3 ++
 pub table-right : table ≡ tab 0 256 width_of
 unfolding table width_of lines
 table-right = refl
-
-small : ℕ → Bool
-small b = ltb (width_of b) 5
-
-all_small : all_l small (from 0 256) ≡ true
-unfolding small width_of lines
-all_small = refl
-
-pub width_small : (b : ℕ) → b < 256 → width_of b < 5
-unfolding small
-width_small b h = ltb-true _ _ (all_from small 256 0 all_small b (omega arith) (omega arith))
 
 -- ---- equality of lines
 

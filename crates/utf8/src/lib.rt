@@ -41,12 +41,8 @@ pub fn code_points(text: &[u8], widths: &Widths) -> Option<usize>
     let mut high = 0xBF;
     for &b in text {
         if due == 0 {
-            let width = widths.of(b) as usize;
-            if width == 0 {
-                return None;
-            }
+            due = widths.of(b)? as usize - 1;
             n += 1;
-            due = width - 1;
             low = second_low(b);
             high = second_high(b);
             continue;

@@ -1,5 +1,6 @@
 // The widths that lead bytes announce (Unicode, Table 3-7): one entry a byte; 0: no sequence begins with it.
-ghost use Rattle.std.specs.Prelude.{◌≡◌};
+// (A table: a rule of the project, decision 36.)
+ghost use Rattle.std.specs.Prelude.{◌≡◌, ◌<◌, MatchOption};
 ghost use Rattle.lists.specs.Lists.{tab};
 ghost use Rattle.utf8.specs.Utf8.{width_of};
 
@@ -36,9 +37,12 @@ impl Widths {
     }
 
     // The width that a lead byte announces.
-    pub fn of(&self, lead: u8) -> u8
-        ensures { result ≡ width_of lead }
+    pub fn of(&self, lead: u8) -> Option<u8>
+        ensures { MatchOption result (width_of lead ≡ 0) (λ width. (width ≡ width_of lead) × (0 < width)) }
     {
-        self.table[lead as usize]
+        match self.table[lead as usize] {
+            0 => None,
+            width => Some(width),
+        }
     }
 }

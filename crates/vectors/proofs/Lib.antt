@@ -4,3 +4,4 @@ pub mod Ends
 pub mod Written
 pub mod Lines
 pub mod Turns
+mod Refusals

@@ -1,17 +1,11 @@
 -- A part that passes the end of a list is none; so is one whose place is held back at a number that no list is as long as. Assumes nothing.
-use borrow.Author.Tests.{leb-true, leb-false, le-leb, lt-leb}
-use Rattle.std.proofs.Common.{◌≡◌, refl, sym, ap, ◌∙◌, Bool, true, false, List, [], ℕ, ◌+◌, ◌≤◌, ◌<◌, min, arith, length, take, drop}
+use borrow.Author.Tests.{leb-true, leb-false, lt-leb}
+use Rattle.std.proofs.Common.{◌≡◌, refl, sym, ap, ◌∙◌, Bool, true, false, List, [], ℕ, ◌+◌, ◌≤◌, ◌<◌, min, arith, length}
 use lib.Dec.{leb}
 use lib.ListN.{get_or-eq_default}
 use Rattle.vectors.specs.Reading.{byte_at, part_at}
 
 module _ {A : Type 0} (list : List A) (at n : ℕ) where
-  pub part_none : length list < at + n → [] ≡ part_at list at n
-  part_none h = simp (lt-leb _ _ h)
-
-  pub part-there : at + n ≤ length list → take n (drop at list) ≡ part_at list at n
-  part-there h = simp (le-leb _ _ h)
-
   pub part_capped : (top : ℕ) → length list < top → part_at list (min at top) n ≡ part_at list at n
   part_capped top short = held (leb at top) refl
     where

@@ -16,9 +16,6 @@ use Rattle.vectors.specs.Runs.{spread}
 
 -- ---- one run more
 
-pub spread-all : (list : List ℕ) (place k : ℕ) → spread list place (k - 0) ≡ spread list place k
-spread-all list place k = let e : k - 0 ≡ k = omega arith in ap (spread list place) e
-
 module _ (list : List ℕ) (place k r : ℕ) where
   pub spread-more : r < k → spread list place (k - r) ≡ replicate (half_at list place) (half_at list (place + 2)) ++ spread list (place + 4) (k - (r + 1))
   unfolding spread

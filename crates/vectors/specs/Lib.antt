@@ -1,6 +1,7 @@
 pub mod Reading
 pub mod Parts
 pub mod Runs
+pub mod Answers
 pub mod Cases
 pub mod Walk
 pub mod Replays

@@ -8,6 +8,7 @@
 ghost use Rattle.std.specs.Prelude.{◌≡◌, ◌<◌, min, ◌+◌, length, replicate};
 ghost use Rattle.vectors.specs.Reading.{byte_at, half_at, word_at, bit_at, flags_at, part_at};
 
+pub mod answers;
 pub mod cases;
 pub mod masks;
 pub mod parts;
@@ -16,12 +17,12 @@ pub mod report;
 pub mod walk;
 pub mod words;
 
-// Room for a list. Large buffers are made by calls: to lend an array that it makes itself, a function has to prove its length, which is found by
-// counting.
-pub fn space() -> [u8; 524288]
-    ensures { result ≡ replicate 524288 0 }
+// Room for a list, or for what a call is lent, filled with one element. (An array: the repository has no heap.) Large buffers are made by a call: to
+// lend an array that it makes itself, a function has to prove its length, which is found by counting.
+pub fn room<T: Copy, const N: usize>(fill: T) -> [T; N]
+    ensures { result ≡ replicate N fill }
 {
-    [0; 524288]
+    [fill; N]
 }
 
 // The byte at a place.
@@ -90,7 +91,7 @@ pub fn flags(list: &[u8], at: usize) -> [bool; 256]
     class
 }
 
-// The n elements at a place; none where the list has fewer.
+// The n elements at a place; none where the list has fewer. (Empty then, and no Option: each caller would take none for no bytes.)
 pub fn part<T>(list: &[T], at: usize, n: usize) -> &[T]
     ensures { result.now ≡ part_at list.now at n }
 {

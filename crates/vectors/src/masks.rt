@@ -15,15 +15,6 @@ fn mask_has(fill: u8, classes: &[u8], i: usize, b: usize) -> bool
     }
 }
 
-// An entry's bits of the masks before mask i + k, and that of mask i + k.
-fn with_mask(bits: u8, fill: u8, classes: &[u8], i: usize, b: usize, k: usize) -> u8
-    requires i_bound { i < 57 }
-    requires k_bound { k < 8 }
-    ensures { result ≡ with_mask fill classes.now i b k bits }
-{
-    bits::with_bit(bits, k, mask_has(fill, classes, i + k, b))
-}
-
 // Entry b of table t.
 fn entry(fill: u8, classes: &[u8], t: usize, b: usize) -> u8
     requires { t < 8 }
@@ -31,7 +22,7 @@ fn entry(fill: u8, classes: &[u8], t: usize, b: usize) -> u8
 {
     let mut bits = 0;
     for k in 0..8 {
-        bits = with_mask(bits, fill, classes, 8 * t, b, k);
+        bits = bits::with_bit(bits, k, mask_has(fill, classes, 8 * t + k, b));
     }
     bits
 }

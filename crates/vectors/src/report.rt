@@ -1,4 +1,7 @@
 // What a program that replays a list prints, written into a lent buffer. The text is defined in specs/Report.antt.
+//
+// A place is bounded in the contract of each function that writes from it, and not by a type: it moves on with each write, so that a type would owe its
+// bound again at each.
 ghost use Rattle.std.specs.Prelude.{◌≡◌, ◌+◌, ◌<◌, ◌≤◌, min, length, slice_index_or, replicate};
 ghost use Rattle.std.proofs.lemmas.List.Edits.{sets};
 ghost use Rattle.io.specs.Counts.{IsPrefixLen};
@@ -8,11 +11,12 @@ ghost use Rattle.vectors.specs.Report.{kind_text, name_byte, after_byte, kind_li
 
 use crate::walk::{Tally, Walk};
 
-// Room for all that is printed.
-pub fn room() -> [u8; 4096]
-    ensures { result ≡ replicate 4096 0 }
-{
-    [0; 4096]
+// The kinds of a list: their names, in their order, each with its line end; and how many of the first are leading ones, whose cases belong to themselves.
+#[derive(Clone, Copy)]
+pub struct Kinds<'a> {
+    pub names: &'a [u8],
+    pub leading: usize,
+    pub ghost short: { length names.now ≤ 1024 },
 }
 
 // The tally of a kind; no cases for one that is not counted.
@@ -59,14 +63,13 @@ fn after_byte(b: u8, kind: usize) -> usize
 
 // The lines of all kinds, whose names are given, each with its line end. (One text: its length is known where it is written; that of a list of texts
 // would have to be summed up.)
-fn kind_lines(out: &mut [u8], names: &[u8], w: Walk) -> usize
-    requires { length names.now ≤ 1024 }
-    ensures wrote { Wrote out.old 0 (kind_lines names.now w 0) out.new result }
+fn kind_lines(out: &mut [u8], kinds: Kinds<'_>, w: Walk) -> usize
+    ensures wrote { Wrote out.old 0 (kind_lines kinds.entry.names.now w 0) out.new result }
     ensures upper_bound { result ≤ 65536 }
 {
     let mut next = 0;
     let mut kind = 0;
-    for b in names {
+    for b in kinds.names {
         next = name_byte(out, next, *b, w, kind);
         kind = after_byte(*b, kind);
     }
@@ -120,15 +123,13 @@ fn end_line(out: &mut [u8], at: usize, list: &[u8], w: Walk) -> usize
     texts::byte(out, next, b'\n')
 }
 
-// All that is printed of a walk through a list, in the front of a lent buffer, as far as there is room: how many bytes. The names are those of the kinds, in
-// their order, each with its line end.
-pub fn report(names: &[u8], list: &[u8], w: Walk, out: &mut [u8]) -> usize
-    requires { length names.now ≤ 1024 }
-    ensures out_after { out.new ≡ sets out.old 0 (reported names.now list.now w) }
-    ensures value { result ≡ min (length (reported names.now list.now w)) (length out.old) }
+// All that is printed of a walk through a list, in the front of a lent buffer, as far as there is room: how many bytes.
+pub fn report(kinds: Kinds<'_>, list: &[u8], w: Walk, out: &mut [u8]) -> usize
+    ensures out_after { out.new ≡ sets out.old 0 (reported kinds.entry.names.now list.now w) }
+    ensures value { result ≡ min (length (reported kinds.entry.names.now list.now w)) (length out.old) }
     ensures prefix_len { IsPrefixLen result out.new }
 {
-    let next = kind_lines(out, names, w);
+    let next = kind_lines(out, kinds, w);
     let next = first_line(out, next, w);
     let next = end_line(out, next, list, w);
     next.min(out.len())

@@ -19,7 +19,7 @@ impl Tally {
         differ: 0,
     };
 
-    // One case more; the largest number stays.
+    // One case more; the largest number stays. (`same`, here and below, is a verdict, which is what is counted.)
     fn told(self, same: bool) -> Tally
         ensures { result ≡ told self same }
     {

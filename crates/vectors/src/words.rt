@@ -35,6 +35,16 @@ pub fn unpack(runs: &[u8], out: &mut [u16]) -> Option<usize>
     Some(from)
 }
 
+// What a buffer of entries is filled with before a call: no entry has such a number.
+pub const UNLISTED: usize = 12297829382473034410;
+
+// Room for entries, none listed.
+pub fn unlisted<const N: usize>() -> [usize; N]
+    ensures { result ≡ replicate N 12297829382473034410 }
+{
+    [UNLISTED; N]
+}
+
 // The first n words of a buffer; none where it has fewer.
 pub fn front(words: &[u16], n: usize) -> &[u16]
     ensures { result.now ≡ part_at words.now 0 n }

@@ -1,5 +1,5 @@
 -- Refusal 12 by single words: every target is judged where it stands. Assumes nothing.
-use mathlib.Core.Path.{◌≡◌, sym, ap, ◌∙◌}
+use mathlib.Core.Path.{◌≡◌, refl, sym, ap, ◌∙◌}
 use mathlib.Core.Bool.{Bool, true, false, ◌&&◌, ◌||◌}
 use mathlib.Core.List.{List, []}
 use Prim.Native.Nat.{ℕ, zero, suc, zero-le, ◌≤◌, ◌<◌}
@@ -10,7 +10,7 @@ use lib.ListN.{length, get_or, take, drop, length-drop}
 use lib.Seq.{length-take-le, get_or-take}
 use Rattle.lists.specs.Lists.{all_l, pieces}
 use Rattle.lists.proofs.Bools.{and-right-false, or-false}
-use Rattle.lists.proofs.Elements.{all-intro, all-false}
+use Rattle.lists.proofs.Intervals.{from, all-placed}
 use Rattle.lists.proofs.Pieces.{pieces-length, pieces-width, piece-word}
 use Rattle.graph_rules.specs.Graph.{target_fits, row_fits, root_fits, graph_fits}
 use Rattle.graph_rules.specs.Layout.{step_count, most_states, row_words, graph_place, graph_size}
@@ -27,18 +27,12 @@ module _ (w : List ℕ) (n : ℕ) (long : graph_size n ≤ length w) where
       let l : length (get_or rows i []) ≡ row_words = pieces-width row_words n (drop 2 w) (simp length-drop (omega arith)) i h in
       length-take-le step_count (get_or rows i []) (omega arith)
 
-  pub rows_fit : ((i c : ℕ) → i < n → c < step_count → target_fits n (get_or w (graph_place i c) 0) ≡ true) → all_l (row_fits n) rows ≡ true
-  rows_fit f =
-      all-intro (row_fits n) rows [] (λ i h.
-      let h' : i < n = rw pieces-length at h in
-      all-intro (target_fits n) (take step_count (get_or rows i [])) 0 (λ c b.
-      let b' : c < step_count = let l = row-width i h' in omega arith in
-      ap (target_fits n) (row_word i c h' b') ∙ f i c h' b'))
+  pub row-judged : (s : ℕ) → s < n → all_l (λ c. target_fits n (get_or w (graph_place s c) 0)) (from 0 step_count) ≡ row_fits n (get_or rows s [])
+  row-judged s h =
+      all-placed (target_fits n) (take step_count (get_or rows s [])) 0 _ step_count (row-width s h) (λ c b. ap (target_fits n) (sym (row_word s c h b)))
 
-  pub rows-unfit : (i c : ℕ) → i < n → c < step_count → target_fits n (get_or w (graph_place i c) 0) ≡ false → all_l (row_fits n) rows ≡ false
-  rows-unfit i c h b e =
-      all-false (row_fits n) rows i [] (rw pieces-length h)
-      (all-false (target_fits n) (take step_count (get_or rows i [])) c 0 (let l = row-width i h in omega arith) (ap (target_fits n) (row_word i c h b) ∙ e))
+  pub rows-judged : all_l (λ s. row_fits n (get_or rows s [])) (from 0 n) ≡ all_l (row_fits n) rows
+  rows-judged = all-placed (row_fits n) rows [] _ n (pieces-length row_words n (drop 2 w)) (λ s h. refl)
 
 -- ---- 12, condition by condition, as the code reads the count n and the root
 

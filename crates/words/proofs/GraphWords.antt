@@ -1,7 +1,7 @@
 -- The graph that well-formed words hold, and that only their count, root and targets decide whether they are well-formed. Assumes nothing.
 use Rattle.std.specs.Prelude.{Option, Some, None, unwrap_or}
-use mathlib.Core.Path.{◌≡◌, refl, sym, ap, subst, ◌∙◌}
-use mathlib.Core.Bool.{true, false, ◌||◌}
+use mathlib.Core.Path.{◌≡◌, sym, ap, subst, ◌∙◌}
+use mathlib.Core.Bool.{true, ◌||◌}
 use mathlib.Core.List.{List, []}
 use mathlib.Core.Logic.{◌⊎◌, ⊎_elim}
 use Prim.Native.Nat.{ℕ, ◌≤◌, ◌<◌}
@@ -10,16 +10,16 @@ use borrow.Author.Tests.{eq-eqb, le-leb, lt-ltb}
 use lib.Dec.{eqb, ltb}
 use lib.ListN.{length, get_or, take, drop, get_or-eq_default}
 use lib.Seq.{length-take-le, get_or-take}
-use Rattle.lists.specs.Lists.{all_l, pieces, eq_option}
-use Rattle.lists.proofs.Bools.{Is, is, yes-is, no-is, none-some, lt-or-le, and_intro, or_left, or_right}
-use Rattle.lists.proofs.Elements.{all-intro, option-sound}
+use Rattle.lists.specs.Lists.{all_l, pieces}
+use Rattle.lists.proofs.Bools.{none-some, lt-or-le, and_intro, or_left, or_right}
+use Rattle.lists.proofs.Elements.{all-intro}
 use Rattle.lists.proofs.Pieces.{pieces-length, piece-word}
 use Rattle.graph_rules.specs.Graph.{Graph, state_of, to, accept_of, early_of, or_none, graph_from, graph_fits}
 use Rattle.graph_rules.proofs.Fits.{Fits, Root}
 use Rattle.graph_rules.proofs.Flat.{from-to, from-accept, from-early, piece-length, from-length, from-width}
-use Rattle.graph_rules.proofs.Taken.{taken-long, taken-few, taken-root, taken-target}
-use Rattle.graph_rules.proofs.Views.{edge-within, out-accept, out-early}
-use Rattle.graph_rules.proofs.Nones.{or_word, or_some, word-inj}
+use Rattle.graph_rules.proofs.Taken.{taken-long, taken-root, taken-target}
+use Rattle.graph_rules.proofs.Views.{edge-within}
+use Rattle.graph_rules.proofs.Nones.{or_word, or_some}
 use Rattle.graph_rules.specs.Layout.{step_count, no_state, most_states, row_words, marks_place, graph_place, graph_size, no_leaf, accept_in, early_in}
 
 -- ---- taken, from the words
@@ -88,61 +88,6 @@ module _ (w : List ℕ) (taken : graph_fits w ≡ true) where
       (h, b, x, ⊎_elim (λ l. subst (λ (z : ℕ). z < get_or w 0 0) x l) (λ l. absurd (y l)) (taken-target w taken s c h b)))
       (λ b. absurd (none-some (sym (get_or-eq_default (state_of g s).steps None (rw (from-width w (taken-long w taken) s h) b)) ∙ e)))
       (lt-or-le c step_count)
-
-  -- what a target word says of its edge
-  module _ (s c r : ℕ) (r-is : r ≡ unwrap_or (to (graph_from w) s c) no_state) where
-    pub edge_none : r ≡ no_state → to (graph_from w) s c ≡ None
-    edge_none e = go (to g s c) refl
-      where
-        go : (o : Option ℕ) → to g s c ≡ o → to g s c ≡ None
-        go None q = q
-        go (Some u) q =
-            let a : r ≡ u = r-is ∙ ap (λ (o : Option ℕ). unwrap_or o no_state) q in
-            let b = (from-edge s c u q).3 in
-            let few = taken-few w taken in
-            absurd (omega arith)
-
-    pub edge-some : (r ≡ no_state → ⊥) → (to (graph_from w) s c ≡ Some r) × (r < get_or w 0 0)
-    edge-some n = go (to g s c) refl
-      where
-        go : (o : Option ℕ) → to g s c ≡ o → (to g s c ≡ Some r) × (r < get_or w 0 0)
-        go None q = absurd (n (r-is ∙ ap (λ (o : Option ℕ). unwrap_or o no_state) q))
-        go (Some u) q =
-            let a : r ≡ u = r-is ∙ ap (λ (o : Option ℕ). unwrap_or o no_state) q in
-            (q ∙ ap {B = Option ℕ} Some (sym a), subst (λ (x : ℕ). x < get_or w 0 0) (sym a) (from-edge s c u q).3)
-
-  -- ---- its leaves
-
-  -- a leaf is not the word for none
-  no-leaf : (x : ℕ) → or_none no_leaf x ≡ Some no_leaf → ⊥
-  no-leaf x e = let (p, q) = or_some no_leaf x no_leaf e in q p
-
-  pub accept-leaf : (s : ℕ) → accept_of (graph_from w) s ≡ Some no_leaf → ⊥
-  accept-leaf s e =
-      ⊎_elim
-      (λ h. no-leaf (accept_in (get_or w (graph_place s marks_place) 0)) (sym (from-accept w (taken-long w taken) s h) ∙ e))
-      (λ h. none-some (sym (out-accept g s (rw (from-length w) h)) ∙ e))
-      (lt-or-le s (get_or w 0 0))
-
-  pub early-leaf : (s : ℕ) → early_of (graph_from w) s ≡ Some no_leaf → ⊥
-  early-leaf s e =
-      ⊎_elim
-      (λ h. no-leaf (early_in (get_or w (graph_place s marks_place) 0)) (sym (from-early w (taken-long w taken) s h) ∙ e))
-      (λ h. none-some (sym (out-early g s (rw (from-length w) h)) ∙ e))
-      (lt-or-le s (get_or w 0 0))
-
-  -- an early leaf and an accept, compared by their words
-  module _ (p u x y : ℕ) (x-is : x ≡ unwrap_or (accept_of (graph_from w) u) no_leaf) (y-is : y ≡ unwrap_or (early_of (graph_from w) p) no_leaf) where
-    pub leaves-differ : (x ≡ y → ⊥) → eq_option (early_of (graph_from w) p) (accept_of (graph_from w) u) ≡ false
-    leaves-differ n = go (is (eq_option (early_of g p) (accept_of g u)))
-      where
-        go : Is (eq_option (early_of g p) (accept_of g u)) → eq_option (early_of g p) (accept_of g u) ≡ false
-        go (no-is q) = q
-        go (yes-is q) = absurd (n (x-is ∙ ap (λ (o : Option ℕ). unwrap_or o no_leaf) (sym (option-sound.eq (early_of g p) (accept_of g u) q)) ∙ sym y-is))
-
-    pub leaves-agree : x ≡ y → eq_option (early_of (graph_from w) p) (accept_of (graph_from w) u) ≡ true
-    leaves-agree e =
-        rw (word-inj no_leaf (early_of g p) (accept_of g u) (early-leaf p) (accept-leaf u) (sym y-is ∙ sym e ∙ x-is)) (option-sound.self (accept_of g u))
 
   -- ---- it fits, as its marks are of two bytes
   pub taken-fits : ((i : ℕ) → get_or w i 0 < 65536) → Fits no_leaf (get_or w 0 0) (graph_from w)

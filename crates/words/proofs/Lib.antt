@@ -4,3 +4,4 @@ pub mod Buffers
 pub mod Marking
 pub mod Edges
 pub mod Views
+pub mod Naming

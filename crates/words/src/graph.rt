@@ -17,7 +17,7 @@ const MARKS: usize = 257;
 // The leaf that is none.
 pub const NO_LEAF: usize = 255;
 
-// ---- places
+// ---- places (the bounds are of plain numbers, as those of `table`)
 
 // The place of word c of state s.
 pub fn place(s: usize, c: usize) -> usize
@@ -38,7 +38,8 @@ pub fn word(graph: &[u16], s: usize, c: usize) -> usize
     crate::word(graph, place(s, c))
 }
 
-// Word c of state s becomes this one.
+// Word c of state s becomes this one. (Rules 5 to 8 each ask that the words are a graph's and promise it: a struct round the lent words would owe it at
+// each such write, where it holds only of the whole.)
 pub fn set_word(graph: &mut [u16], s: usize, c: usize, word: u16)
     requires s_bound { s < 65536 }
     requires c_bound { c < 65536 }
@@ -48,7 +49,18 @@ pub fn set_word(graph: &mut [u16], s: usize, c: usize, word: u16)
     graph[place(s, c)] = word;
 }
 
-// The marks of state s become these: the leaf that it accepts, and its early leaf.
+// The target of state s by byte c, or by the end step, becomes this one, if there is one.
+pub fn set_target(graph: &mut [u16], s: usize, c: usize, target: Option<u16>)
+    requires s_bound { s < 65536 }
+    requires c_bound { c < 65536 }
+    requires c_in_bounds { graph_place s c < length graph.old }
+    ensures { graph.new ≡ set graph.old (graph_place s c) (unwrap_or target no_state) }
+{
+    set_word(graph, s, c, target.unwrap_or(NONE as u16));
+}
+
+// The marks of state s become these: the leaf that it accepts, and its early leaf. (Two bytes of a word, by numbers as `marks_word` has it: through
+// `from_le_bytes` each leaf would be cast to a byte and the word back.)
 pub fn set_marks(graph: &mut [u16], s: usize, accept: Option<usize>, early: Option<usize>)
     requires s_bound { s < 65536 }
     requires accept_le_no_leaf { IfSome accept (λ l. l ≤ no_leaf) × IfSome early (λ l. l ≤ no_leaf) }
@@ -70,11 +82,21 @@ pub fn set_head(graph: &mut [u16], states: u16, root: u16)
 
 // ---- refusal 12
 
-// Whether u is a target in a graph of n states: below n, or none.
+// Whether u is a target in a graph of n states: below n, or none. (A word still, which is judged here; `Graph` reads it as an option.)
 fn target_fits(n: usize, u: usize) -> bool
     ensures { result ≡ target_fits n u }
 {
     u < n || u == NONE
+}
+
+// Whether every target of state s is below n, or none.
+fn row_fits(graph: &[u16], n: usize, s: usize) -> bool
+    requires n_le_most_states { n ≤ most_states }
+    requires n_in_bounds { graph_size n ≤ length graph.now }
+    requires s_bound { s < n }
+    ensures { result ≡ row_fits n (get_or (pieces row_words n (drop 2 graph.now)) s []) }
+{
+    (0..STEPS).all(|c| target_fits(n, word(graph, s, c)))
 }
 
 // Whether every target of the n states is below n, or none.
@@ -83,14 +105,7 @@ fn targets_fit(graph: &[u16], n: usize) -> bool
     requires n_in_bounds { graph_size n ≤ length graph.now }
     ensures { result ≡ all_l (row_fits n) (pieces row_words n (drop 2 graph.now)) }
 {
-    for s in 0..n {
-        for c in 0..STEPS {
-            if !target_fits(n, word(graph, s, c)) {
-                return false;
-            }
-        }
-    }
-    true
+    (0..n).all(|s| row_fits(graph, n, s))
 }
 
 // Whether the words are a graph's: not refused by 12.
@@ -119,8 +134,8 @@ fn fits(graph: &[u16]) -> bool
 
 // ---- what well-formed words say
 
-// A graph by its words: whoever holds one knows that they are well-formed, and reads by it without a check. A state stays a number with its bound, which
-// a loop over all states has by itself.
+// A graph by its words: whoever holds one knows that they are well-formed, and reads by it without a check. A state, as a step, stays a number with its
+// bound, which a loop over all of them has by itself.
 #[derive(Clone, Copy)]
 pub struct Graph<'a> {
     pub words: &'a [u16],

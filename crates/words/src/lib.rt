@@ -1,5 +1,5 @@
 // The layouts of graph words (`graph`) and of table words (`table`): each is drawn once, beside the functions through which alone all other code
-// reads and writes such words.
+// reads and writes such words. And the numbers that states get anew (`names`).
 #![tactic(auto)]
 
 ghost use Rattle.std.specs.Prelude.{◌≡◌, ◌<◌, ◌≤◌, ◌-◌, length, get_or, replicate};
@@ -7,6 +7,7 @@ ghost use Rattle.std.proofs.lemmas.List.Edits.{sets};
 ghost use Rattle.graph_rules.specs.Graph.{or_none};
 
 pub mod graph;
+pub mod names;
 pub mod table;
 
 // The end step comes behind the steps of the bytes 0 to 255.

@@ -46,6 +46,8 @@ pub fn match_place(m: usize, n: usize, i: usize, c: usize) -> usize
     4 + 3 * m + ROW * n + 2 * (i - 1) + c
 }
 
+// What the next three share is `crate::word`; each has the place as its own.
+
 // Word c of leaf l.
 pub fn leaf_word(table: &[u16], l: usize, c: usize) -> usize
     requires l_bound { l < 65536 }

@@ -7,11 +7,11 @@ ghost use Rattle.worklist.specs.Work.{Work, begun, pushed};
 
 use std::marker::Model;
 
-// An array and how much of it is in use: nothing is allocated.
+// An array and how much of it is in use: nothing is allocated. A number below N takes 16 bits.
 #[derive(Drop)]
 pub struct Worklist<const N: usize> {
     seen: [bool; N],
-    stack: [usize; N],
+    stack: [u16; N],
     top: usize,
 }
 
@@ -44,7 +44,7 @@ impl<const N: usize> Worklist<N> {
     {
         if !self.seen[number] {
             self.seen[number] = true;
-            self.stack[self.top] = number;
+            self.stack[self.top] = number as u16;
             self.top += 1;
         }
     }
@@ -59,7 +59,7 @@ impl<const N: usize> Worklist<N> {
             return None;
         }
         self.top -= 1;
-        Some(self.stack[self.top])
+        Some(self.stack[self.top] as usize)
     }
 
     // Which numbers have been met.

@@ -22,16 +22,16 @@ pub returns-in_default : goal.returns-in_default
 returns-in_default c =
     let t = c.in_ok-table.table in
     let e = c.in_ok-table.ensures in
-    ap Ok (sym (breaks-first (table_of t.words.now) no_state (error-no-start (table_of t.words.now) (sym c.in_default.ensures.value))))
+    let n : empty_leaves (table_of t.words.now) ≡ [] → ⊥ = λ q. c.if-count_empty-eq0.false (c.count_empty.ensures ∙ ap length q) in
+    ap Ok (sym (breaks-first (table_of t.words.now) no_state (error-empty (table_of t.words.now) c.in-Some.s (sym c.in-Some.ensures.value) n)))
     ∙ sym (clean-answered t.words.now t.legal)
     ∙ ap clean_of e.0
 
-pub returns-then-count_empty-ne0 : goal.returns-then-count_empty-ne0
-returns-then-count_empty-ne0 c =
+pub returns-in_default-2 : goal.returns-in_default-2
+returns-in_default-2 c =
     let t = c.in_ok-table.table in
     let e = c.in_ok-table.ensures in
-    let n : empty_leaves (table_of t.words.now) ≡ [] → ⊥ = λ q. c.if-count_empty-ne0.true (c.count_empty.ensures ∙ ap length q) in
-    ap Ok (sym (breaks-first (table_of t.words.now) no_state (error-empty (table_of t.words.now) c.in-Some.s (sym c.in-Some.ensures.value) n)))
+    ap Ok (sym (breaks-first (table_of t.words.now) no_state (error-no-start (table_of t.words.now) (sym c.in_default.ensures.value))))
     ∙ sym (clean-answered t.words.now t.legal)
     ∙ ap clean_of e.0
 
@@ -39,10 +39,10 @@ pub judged-requires-clause-start : goal.judged-requires-clause-start
 judged-requires-clause-start c = sym c.in-Some.ensures.value
 
 pub judged-requires-clause-none_empty : goal.judged-requires-clause-none_empty
-judged-requires-clause-none_empty c = length-nil _ (sym c.count_empty.ensures ∙ c.if-count_empty-ne0.false)
+judged-requires-clause-none_empty c = length-nil _ (sym c.count_empty.ensures ∙ c.if-count_empty-eq0.true)
 
-pub returns : goal.returns
-returns c =
+pub returns-in-Some : goal.returns-in-Some
+returns-in-Some c =
     let t = c.in_ok-table.table in
     let e = c.in_ok-table.ensures in
     ap Ok c.judged.ensures ∙ sym (clean-answered t.words.now t.legal) ∙ ap clean_of e.0

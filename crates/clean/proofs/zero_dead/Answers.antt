@@ -1,32 +1,30 @@
--- Each word of the row is looked at. Assumes nothing.
-use mathlib.Core.Path.{sym, ap, ◌∙◌}
-use Prim.Native.Nat.{ℕ}
+-- The steps are judged one by one; then the head of the chain. Assumes nothing.
+use borrow.Author.Tests.{tests}
+use mathlib.Core.Path.{refl, sym, ap, ◌∙◌}
+use mathlib.Core.Bool.{not}
 use native.Mathlib.Omega.{arith}
-use borrow.Author.Count.{below_more}
-use lib.ListN.{get_or}
-use Rattle.graph_rules.specs.Layout.{row_place}
-use Rattle.lists.proofs.Judged.{judged-false}
+use Rattle.std.proofs.Common.{rules}
+use Rattle.std.proofs.Math.Bool.{not-not}
+use Rattle.std.proofs.lemmas.Iterator.{serves_from_Range}
+use Rattle.lists.proofs.Ranges.{all-judged_by}
 use Rattle.legal.proofs.Legal.{legal-sized}
-use Rattle.clean.proofs.Rows.{zero-judged}
+use Rattle.clean.proofs.Rows.{steps-judged, zero-not, zero-headed}
 use Rattle.clean.proofs.zero_dead.Goals as goal
 
-pub leaves-m-requires : goal.leaves-m-requires
-leaves-m-requires c = let z = legal-sized _ c.args.table.legal in omega arith
+pub all-requires-clause-callable : goal.all-requires-clause-callable
+all-requires-clause-callable c = serves_from_Range (λ x q k. search rules) (λ x a b. let z = legal-sized _ c.args.table.legal in λ κs p g e r u l. (omega arith, omega arith))
 
-pub row_word-requires-clause-c_in_bounds : goal.row_word-requires-clause-c_in_bounds
-row_word-requires-clause-c_in_bounds c = let z = legal-sized _ c.args.table.legal in omega arith
+pub head-requires : goal.head-requires
+head-requires c = let z = legal-sized _ c.args.table.legal in omega arith
 
-pub returns-then-row_word-ne0 : goal.returns-then-row_word-ne0
-returns-then-row_word-ne0 c =
+pub returns-then-all : goal.returns-then-all
+returns-then-all c =
     let w = c.args.table.words.now in
-    let e = c.row_word.ensures.0 ∙ ap (λ (m : ℕ). get_or w (row_place m 0 c.loop-c.c) 0) c.leaves-m.ensures.0 in
-    sym (judged-false (zero-judged w c.args.table.legal) c.loop-c.c (omega arith) (λ q. c.if-row_word-ne0.true (e ∙ q)))
+    let e = all-judged_by _ _ _ c.all.result (steps-judged w c.args.table.legal) refl refl c.all.ensures.ran (λ x f k. search (rules, tests)) (λ x f k. search (rules, tests)) in
+    sym (not-not c.is_none.result) ∙ ap not (sym c.is_none.ensures) ∙ zero-headed w (sym e ∙ c.if-all.true) c.head.result c.head.ensures.number
 
-pub loop-c-preserved : goal.loop-c-preserved
-loop-c-preserved c =
+pub returns-else-all : goal.returns-else-all
+returns-else-all c =
     let w = c.args.table.words.now in
-    let e = c.row_word.ensures.0 ∙ ap (λ (m : ℕ). get_or w (row_place m 0 c.loop-c.c) 0) c.leaves-m.ensures.0 in
-    below_more _ c.loop-c.c c.loop-c.invariant (sym e ∙ c.if-row_word-ne0.false)
-
-pub returns : goal.returns
-returns c = sym ((zero-judged c.args.table.words.now c.args.table.legal).all (λ k h. c.loop-c.invariant k (omega arith)))
+    let e = all-judged_by _ _ _ c.all.result (steps-judged w c.args.table.legal) refl refl c.all.ensures.ran (λ x f k. search (rules, tests)) (λ x f k. search (rules, tests)) in
+    c.if-all.false ∙ sym (zero-not w (sym e ∙ c.if-all.false))

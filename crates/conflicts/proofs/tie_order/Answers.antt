@@ -1,8 +1,12 @@
 -- One state down: its tie is put in at its place, or it has none. Assumes nothing.
-use mathlib.Core.Path.{◌≡◌, sym, subst}
+use mathlib.Core.Path.{◌≡◌, sym, ap, subst}
 use mathlib.Core.List.{List}
 use Prim.Native.Nat.{ℕ, ◌-◌, ◌+◌}
 use native.Mathlib.Omega.{arith}
+use lib.ListN.{length, get_or, take}
+use Rattle.graph_rules.specs.Table.{table_of}
+use Rattle.legal.specs.declared.Table as legal
+use Rattle.conflicts.specs.Slots.{InOrder}
 use Rattle.legal.proofs.Legal.{legal-sized}
 use Rattle.conflicts.proofs.Conflicts.{down-free, down-tied}
 use Rattle.conflicts.proofs.Orders.{Sorting, sorting-none, sorting-slice, sorting-pass, sorting-more, sorting-done}
@@ -11,16 +15,21 @@ use Rattle.conflicts.proofs.tie_order.Goals as goal
 pub loop-s-init : goal.loop-s-init
 loop-s-init c = sorting-none c.args.table.words.now c.args.set.now c.states-s.result c.states-s.ensures.0
 
-pub slot_of-p-requires-clause-in_order : goal.slot_of-p-requires-clause-in_order
-slot_of-p-requires-clause-in_order c =
+pub slot_of-p-requires : goal.slot_of-p-requires
+slot_of-p-requires c =
     let l = c.loop-s in
-    sorting-slice c.args.table.words.now c.args.table.legal c.args.set.now l.s l.order l.count l.invariant
+    let order = sorting-slice c.args.table.words.now c.args.table.legal c.args.set.now l.s l.order l.count l.invariant in
+    record {
+      in_order =
+          subst (λ (u : legal.Table). InOrder (table_of u.words.now) (get_or u.words.now 3 0) (take l.count l.order) (length (take l.count l.order)))
+          (sym c.in-Some.ensures.table) order;
+    }
 
 pub overflow_cast-i : goal.overflow_cast-i
 overflow_cast-i c =
-    let z = legal-sized c.args.table.words.now c.args.table.legal in
-    let b = c.in-Some.ensures.number in
-    omega (arith, b.1)
+    let i = c.in-Some.i in
+    let z = legal-sized i.table.words.now i.table.legal in
+    omega (arith, i.there)
 
 pub loop-s-preserved-in-Some : goal.loop-s-preserved-in-Some
 loop-s-preserved-in-Some c =
@@ -28,11 +37,11 @@ loop-s-preserved-in-Some c =
     let set = c.args.set.now in
     let l = c.loop-s in
     let i = c.in-Some.i in
-    let b = c.in-Some.ensures.number in
+    let of = c.in-Some.ensures.table in
     let p = c.slot_of-p in
     subst (λ (o : List ℕ). Sorting w set (l.s - 1) o (l.count + 1)) (sym c.put_in.ensures)
-    (sorting-more w c.args.table.legal set l.s l.order l.count l.invariant (omega arith) i p.result b.0 b.1 p.ensures.0 p.ensures.1
-    (down-tied w c.args.table.legal set l.s (omega arith) l.invariant.inside i (sym c.in-Some.ensures.value)))
+    (sorting-more w c.args.table.legal set l.s l.order l.count l.invariant (omega arith) i (ap (λ (u : legal.Table). u.words.now) of) p.result p.ensures.0 p.ensures.1
+    (down-tied c.args.table set l.s (omega arith) l.invariant.inside i of (sym c.in-Some.ensures.number)))
 
 pub loop-s-preserved : goal.loop-s-preserved
 loop-s-preserved c =
@@ -40,7 +49,7 @@ loop-s-preserved c =
     let set = c.args.set.now in
     let l = c.loop-s in
     sorting-pass w c.args.table.legal set l.s l.order l.count l.invariant (omega arith)
-    (down-free w c.args.table.legal set l.s (omega arith) l.invariant.inside (sym c.in_default.ensures.value))
+    (down-free c.args.table set l.s (omega arith) l.invariant.inside (sym c.in_default.ensures.number))
 
 pub returns-clause-order_value : goal.returns-clause-order_value
 returns-clause-order_value c =

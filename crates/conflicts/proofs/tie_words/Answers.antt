@@ -2,8 +2,7 @@
 use mathlib.Core.Path.{◌≡◌, sym, subst, ◌∙◌}
 use Prim.Native.Nat.{ℕ}
 use native.Mathlib.Omega.{arith}
-use Rattle.graph_rules.specs.Table.{table_of}
-use Rattle.leaves.specs.Chains.{tie_from}
+use Rattle.conflicts.specs.Slots.{tie_of}
 use Rattle.conflicts.proofs.Conflicts.{Counted, counted_none, counted-pass, counted-more, down-free, down-tied, ties-number, ties-words}
 use Rattle.conflicts.proofs.tie_words.Goals as goal
 
@@ -18,9 +17,10 @@ loop-s-preserved-in-Some c =
     let w = c.args.table.words.now in
     let set = c.args.set.now in
     let l = c.loop-s in
-    counted-more w set l.s l.errors l.words (omega arith) l.invariant (tie_from (table_of w) c.in-Some.i) c.tie_length.result
-    c.tie_length.ensures.0 c.tie_length.ensures.1
-    (down-tied w c.args.table.legal set l.s (omega arith) l.invariant.inside c.in-Some.i (sym c.in-Some.ensures.value))
+    let i = c.in-Some.i in
+    let (length_is, few) = c.tie_length.ensures in
+    counted-more w set l.s l.errors l.words (omega arith) l.invariant (tie_of i) c.tie_length.result length_is few
+    (down-tied c.args.table set l.s (omega arith) l.invariant.inside i c.in-Some.ensures.table (sym c.in-Some.ensures.number))
 
 pub loop-s-preserved : goal.loop-s-preserved
 loop-s-preserved c =
@@ -28,7 +28,7 @@ loop-s-preserved c =
     let set = c.args.set.now in
     let l = c.loop-s in
     counted-pass w set l.s l.errors l.words (omega arith) l.invariant
-    (down-free w c.args.table.legal set l.s (omega arith) l.invariant.inside (sym c.in_default.ensures.value))
+    (down-free c.args.table set l.s (omega arith) l.invariant.inside (sym c.in_default.ensures.number))
 
 pub returns-clause-errors_value : goal.returns-clause-errors_value
 returns-clause-errors_value c =

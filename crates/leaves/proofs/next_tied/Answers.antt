@@ -1,10 +1,18 @@
--- The first record of this record's priority, from its next on. Assumes nothing.
-use mathlib.Core.Path.{ap₂, ◌∙◌}
-use Rattle.graph_rules.specs.Table.{table_of}
-use Rattle.leaves.specs.Chains.{first_with, next_tied}
+-- The first record of this record's priority, from its next on, if there is one. Assumes nothing.
+use Rattle.std.specs.Prelude.{Some, None}
+use mathlib.Core.Path.{sym, ap, ◌∙◌}
+use Prim.Native.Nat.{ℕ}
+use Rattle.legal.specs.Records.{number_of}
+use Rattle.leaves.proofs.Walks.{first_on, tied-next}
 use Rattle.leaves.proofs.next_tied.Goals as goal
 
-pub returns-clause-value : goal.returns-clause-value
-unfolding next_tied
-returns-clause-value c =
-    c.first_with.ensures.value ∙ ap₂ (first_with (table_of c.args.table.words.now)) c.priority.ensures c.match_next.ensures.value
+pub returns-in_err-next-clause-number : goal.returns-in_err-next-clause-number
+returns-in_err-next-clause-number c =
+    ap number_of c.from_residual.ensures ∙ sym (tied-next c.args.i None c.in_err-next.ensures.number c.in_err-next.ensures.table)
+
+pub returns-clause-number : goal.returns-clause-number
+returns-clause-number c =
+    let next = Some c.in_ok-next.field-0 in
+    c.first_with.ensures.number
+    ∙ ap (λ (p : ℕ). first_on p next) c.priority.ensures
+    ∙ sym (tied-next c.args.i next c.in_ok-next.ensures.number c.in_ok-next.ensures.table)

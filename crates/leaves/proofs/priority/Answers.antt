@@ -9,6 +9,6 @@ use Rattle.leaves.proofs.priority.Goals as goal
 pub returns : goal.returns
 unfolding priority_at
 returns c =
-    let w = c.args.table.words.now in
-    priority-is w c.args.table.legal c.match_leaf-leaf.result _ _ c.match_leaf-leaf.ensures.1 c.leaf_word.ensures.0 c.leaf_word-2.ensures.0
-    ∙ ap (λ (l : ℕ). (leaf_at (table_of w) l).priority) c.match_leaf-leaf.ensures.0
+    let w = c.args.i.table.words.now in
+    priority-is w c.args.i.table.legal c.leaf-leaf.result _ _ c.leaf-leaf.ensures.1 c.leaf_word.ensures.0 c.leaf_word-2.ensures.0
+    ∙ ap (λ (l : ℕ). (leaf_at (table_of w) l).priority) c.leaf-leaf.ensures.0

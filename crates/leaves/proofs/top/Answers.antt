@@ -1,12 +1,18 @@
--- The first record of the chain's highest priority. Assumes nothing.
-use mathlib.Core.Path.{ap, ap₂, ◌∙◌}
-use Rattle.graph_rules.specs.Table.{table_of}
-use Rattle.leaves.specs.Chains.{highest_from, first_with, top_of}
+-- The first record of the chain's highest priority, if it has a record. Assumes nothing.
+use Rattle.std.specs.Prelude.{Some, None}
+use mathlib.Core.Path.{sym, ap, ◌∙◌}
+use Prim.Native.Nat.{ℕ}
+use Rattle.legal.specs.Records.{number_of}
+use Rattle.leaves.proofs.Walks.{first_on, top-head}
 use Rattle.leaves.proofs.top.Goals as goal
 
-pub returns-clause-value : goal.returns-clause-value
-unfolding top_of
-returns-clause-value c =
-    let t = table_of c.args.table.words.now in
-    let h = c.head-head.ensures.value in
-    c.first_with.ensures.value ∙ ap₂ (first_with t) (c.highest.ensures ∙ ap (highest_from t) h) h
+pub returns-in_err-head-clause-number : goal.returns-in_err-head-clause-number
+returns-in_err-head-clause-number c =
+    ap number_of c.from_residual.ensures ∙ sym (top-head c.args.table c.args.s None c.in_err-head.ensures.number c.in_err-head.ensures.table)
+
+pub returns-clause-number : goal.returns-clause-number
+returns-clause-number c =
+    let head = Some c.in_ok-head.head in
+    c.first_with.ensures.number
+    ∙ ap (λ (p : ℕ). first_on p head) c.highest.ensures
+    ∙ sym (top-head c.args.table c.args.s head c.in_ok-head.ensures.number c.in_ok-head.ensures.table)

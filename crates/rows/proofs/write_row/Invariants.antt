@@ -7,4 +7,4 @@ use Rattle.rows.specs.Renumbering.{new_row}
 use Rattle.rows.proofs.write_row.Given as goal
 
 abbrev pub invariant-loop-c : goal.invariant-loop-c
-invariant-loop-c l = l.graph ≡ sets l.initial.graph (graph_place l.k 0) (take l.c (new_row (table_of l.table.words.now) l.numbers l.s))
+invariant-loop-c l = l.graph ≡ sets l.initial.graph (graph_place l.k 0) (take l.c (new_row (table_of l.table.words.now) l.names l.s))

@@ -1,19 +1,17 @@
 -- The flags are compared one by one. Assumes nothing.
-use Rattle.std.proofs.Common.{◌≡◌, false, sym, arith}
-use borrow.Author.Tests.{not-true}
+use Rattle.std.proofs.Common.{◌≡◌, false, arith, rules, tests}
+use Rattle.std.proofs.lemmas.Iterator.{YieldsList-from_slice, cases_from_all}
+use Rattle.std.proofs.lemmas.Iterator.Consumers.{YieldsList-from_enumerate}
 use mathlib.Core.Bool.{beq}
-use lib.ListN.{get_or}
 use Rattle.mask_store.specs.Masks.{mask_has}
-use Rattle.mask_store.proofs.Search.{class_same, class-differs}
+use Rattle.mask_store.proofs.Search.{class-told}
 use Rattle.mask_store.proofs.tables.is_class.Goals as goal
-
-pub returns-then-mask_has-flag : goal.returns-then-mask_has-flag
-returns-then-mask_has-flag c =
-    let flag = get_or c.args.class.now c.loop-b.b false in
-    let differ : beq (mask_has c.args.tables.now c.args.i c.loop-b.b) flag ≡ false =
-    rw (← c.mask_has.ensures) (not-true (beq c.mask_has.result flag) c.if-mask_has-flag.true) in
-    sym (class-differs c.args.tables.now c.args.i c.args.class.now c.loop-b.b (omega arith) differ)
 
 pub returns : goal.returns
 returns c =
-    sym (class_same c.args.tables.now (omega arith) c.args.i (omega arith) c.args.class.now (omega arith) (λ k h. c.loop-b.invariant k (omega arith)))
+    let tables = c.args.tables.now in
+    let i = c.args.i in
+    let class = c.args.class.now in
+    class-told tables (omega arith) i (omega arith) class (omega arith) c.all.result
+    (cases_from_all _ _ _ (λ p. mask_has tables i p.0 ≡ p.1) (λ p. beq (mask_has tables i p.0) p.1 ≡ false) c.all.ensures.ran (YieldsList-from_enumerate (YieldsList-from_slice class (cc)) (cc)) (λ x q k. search (rules, tests))
+    (λ x q k. search (rules, tests)))

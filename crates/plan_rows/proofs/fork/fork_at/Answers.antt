@@ -2,7 +2,7 @@ use Rattle.std.proofs.Common.{sym, ◌∙◌, arith}
 use Rattle.graph_rules.specs.Graph.{state_of, graph_from}
 use Rattle.graph_rules.proofs.Taken.{taken-few}
 use Rattle.edges.proofs.ByTarget.{target-flag}
-use Rattle.plan_rows.proofs.Forks.{forking-first, forking-later, forking-not, forked-table, forked-each}
+use Rattle.plan_rows.proofs.Forks.{forking-first, forking-later, forking-not, forked}
 use Rattle.plan_rows.proofs.fork.fork_at.Goals as goal
 use Rattle.plan_rows.proofs.fork.fork_at.Goals.{then-leads-u, then-count-lt-EDGES, else-count-lt-EDGES, else-leads-u}
 
@@ -21,14 +21,8 @@ loop-u-preserved c =
       | else-leads-u w ↦ rw (w.count-is, w.lowest-is) (forking-not f (sym flag ∙ w.if-leads-u.false))
     ]
 
-pub returns-then-count-gt-EDGES : goal.returns-then-count-gt-EDGES
-returns-then-count-gt-EDGES c =
+pub returns : goal.returns
+returns c =
     let st = state_of (graph_from c.args.graph.words.now) c.args.s in
     let flag = target-flag st c.targets-leads.ensures c.args.s (omega (arith, taken-few c.args.graph.words.now c.args.graph.fits, c.requires.s_bound)) in
-    forked-table c.args.graph.words.now c.args.s c.loop-u.u c.loop-u.invariant (omega (arith, c.states-u-end.ensures)) c.requires.s_bound flag c.if-count-gt-EDGES.true
-
-pub returns-else-count-gt-EDGES : goal.returns-else-count-gt-EDGES
-returns-else-count-gt-EDGES c =
-    let st = state_of (graph_from c.args.graph.words.now) c.args.s in
-    let flag = target-flag st c.targets-leads.ensures c.args.s (omega (arith, taken-few c.args.graph.words.now c.args.graph.fits, c.requires.s_bound)) in
-    forked-each c.args.graph.words.now c.args.s c.loop-u.u c.loop-u.invariant (omega (arith, c.states-u-end.ensures)) c.requires.s_bound flag (omega arith)
+    forked c.args.graph.words.now c.args.s c.loop-u.u c.loop-u.invariant (omega (arith, c.states-u-end.ensures)) c.requires.s_bound flag

@@ -1,7 +1,9 @@
 -- The three words stand where the row's were.
-use Rattle.std.proofs.Common.{rules}
-use Rattle.plan_rows.proofs.Rowwise.{row-put}
+use Rattle.std.proofs.Common.{◌≡◌, length, ◌+◌, ◌*◌, arith, rules}
+use Rattle.lists.proofs.Buffers.{sets-part}
 use Rattle.plan_rows.proofs.layout.set_row.Goals as goal
 
 pub returns : goal.returns
-returns c = row-put c.args.plan.now c.args.row c.args.s c.copy_from_slice.ensures.after (search rules) c.requires
+returns c =
+    let size : length c.args.row ≡ 3 = search rules in
+    sets-part c.args.plan.now c.args.row (3 * c.args.s) (3 * c.args.s + 3) c.copy_from_slice.ensures.after (omega (arith, size)) (omega (arith, c.requires))

@@ -3,4 +3,4 @@ use Rattle.plan_rows.proofs.StateNeeds.{Going}
 use Rattle.plan_rows.proofs.needs.grow.Given as goal
 
 abbrev pub invariant-loop-s : goal.invariant-loop-s
-invariant-loop-s l = Going l.graph.words.now l.initial.held l.held l.s
+invariant-loop-s l = Going l.graph.words.now l.fn.store l.held.store l.s

@@ -6,7 +6,7 @@ use Rattle.readings.proofs.Starts.{no-states, root_below}
 use Rattle.readings.proofs.read.read.Goals as goal
 
 pub returns-then-states-eq0 : goal.returns-then-states-eq0
-returns-then-states-eq0 c = sym (no-states c.args.graph.words.now c.args.graph.fits c.args.text.now (sym c.states.ensures.0 ∙ c.if-states-eq0.true))
+returns-then-states-eq0 c = c.none.ensures ∙ sym (no-states c.args.graph.words.now c.args.graph.fits c.args.text.now (sym c.states.ensures.0 ∙ c.if-states-eq0.true))
 
 pub walk-requires : goal.walk-requires
 walk-requires c = rw c.root.ensures.0 (root_below c.args.graph.words.now c.args.graph.fits (λ z. c.if-states-eq0.false (c.states.ensures.0 ∙ z)))

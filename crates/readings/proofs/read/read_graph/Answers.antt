@@ -15,5 +15,5 @@ returns-in_err-graph c =
 pub returns : goal.returns
 returns c =
     let e = c.in_ok-graph.ensures in
-    ap Ok (c.read.ensures ∙ ap (λ (w : List ℕ). read_graph (graph_from w) c.args.text.now) e.0)
+    ap Ok (c.reading.ensures ∙ c.read.ensures ∙ ap (λ (w : List ℕ). read_graph (graph_from w) c.args.text.now) e.0)
     ∙ sym (graph-answered c.args.graph.now c.args.text.now e.1)

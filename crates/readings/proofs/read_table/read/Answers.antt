@@ -8,6 +8,10 @@ pub returns-in_err-start : goal.returns-in_err-start
 unfolding read_table
 returns-in_err-start c = c.from_residual.ensures ∙ rw (← c.in_err-start.ensures.value)
 
+pub returns-in_err-start-2 : goal.returns-in_err-start-2
+unfolding read_table
+returns-in_err-start-2 c = c.from_residual-in_err-start-2.ensures ∙ rw (← c.in_ok-start.ensures.value, ← edge-is c.in_ok-start.field-0, ← c.in_err-start-2.ensures)
+
 pub returns : goal.returns
 unfolding read_table
-returns c = c.walk.ensures ∙ rw (c.or_none-start.ensures, edge-is c.in_ok-start.field-0, ← c.in_ok-start.ensures.value)
+returns c = c.reading.ensures ∙ c.walk.ensures ∙ rw (← c.in_ok-start.ensures.value, ← edge-is c.in_ok-start.field-0, ← c.in_ok-start-2.ensures)

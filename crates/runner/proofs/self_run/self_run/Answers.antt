@@ -1,13 +1,28 @@
-use Rattle.std.proofs.Common.{◌≡◌, sym, ◌∙◌, refl, ◌≤◌, true, get_or, below_more}
+-- The first place that the search finds stops; those before it are passed.
+use Rattle.std.proofs.Common.{◌≡◌, ℕ, Bool, List, length, rules, true, false, get_or}
+use borrow.Author.Tests.{tests}
+use Rattle.std.proofs.lemmas.Iterator.{first_from_Range}
+use Rattle.bits.specs.Bits.{is_set}
+use Rattle.mask_store.specs.Layout.{mask_table, mask_bit, entry_place}
 use Rattle.mask_store.specs.Masks.{mask_has}
-use Rattle.runner.proofs.SelfRun.{read-bit}
+use Rattle.runner.proofs.SelfRun.{stood}
 use Rattle.runner.proofs.self_run.self_run.Goals as goal
 
-pub returns-then-not-test_bit-clause-stops : goal.returns-then-not-test_bit-clause-stops
-returns-then-not-test_bit-clause-stops c h =
-    sym (read-bit c.args.tables.now c.args.text.now c.args.i c.loop-k.k _ _ refl c.test_bit.ensures) ∙ c.if-not-test_bit.true
+abbrev has : List ℕ → ℕ → List ℕ → ℕ → Bool
+has tables i text k = is_set (mask_bit i) (get_or tables (entry_place (mask_table i) (get_or text k 0)) 0)
 
-pub loop-k-preserved : goal.loop-k-preserved
-loop-k-preserved c =
-    below_more (λ j. c.args.from ≤ j → mask_has c.args.tables.now c.args.i (get_or c.args.text.now j 0) ≡ true) c.loop-k.k c.loop-k.invariant
-    (λ h. sym (read-bit c.args.tables.now c.args.text.now c.args.i c.loop-k.k _ _ refl c.test_bit.ensures) ∙ c.if-not-test_bit.false)
+pub returns-clause-passes : goal.returns-clause-passes
+unfolding mask_has
+returns-clause-passes c =
+    let p = has c.args.tables.now c.args.i c.args.text.now in
+    rw c.unwrap_or.ensures
+    (stood p c.args.from (length c.args.text.now) c.find.result
+    (first_from_Range _ _ _ c.find.result (λ k. p k ≡ false) (λ k. p k ≡ true) c.find.ensures.ran (λ k f h. search (rules, tests)) (λ k f h. search (rules, tests)))).0
+
+pub returns-clause-stops : goal.returns-clause-stops
+unfolding mask_has
+returns-clause-stops c =
+    let p = has c.args.tables.now c.args.i c.args.text.now in
+    rw c.unwrap_or.ensures
+    (stood p c.args.from (length c.args.text.now) c.find.result
+    (first_from_Range _ _ _ c.find.result (λ k. p k ≡ false) (λ k. p k ≡ true) c.find.ensures.ran (λ k f h. search (rules, tests)) (λ k f h. search (rules, tests)))).1

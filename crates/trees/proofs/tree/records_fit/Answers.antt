@@ -1,19 +1,13 @@
--- `trees::tree::records_fit` meets its contract. Assumes nothing.
-use Rattle.std.proofs.Common.{arith, sym, ◌∙◌}
-use Rattle.lists.proofs.Intervals.{passing-none, passing-more, from_all, from-fails}
+-- `trees::tree::records_fit` meets its contract: `all` goes over the numbers from 1 on. Assumes nothing.
+use Rattle.std.proofs.Common.{rules, arith, refl, ◌∙◌, ◌+◌}
+use Rattle.std.proofs.lemmas.Iterator.{YieldsList-from_range}
+use Rattle.std.proofs.lemmas.Iterator.Search.{all_from_yields_List}
 use Rattle.trees.specs.Tree.{count, record_fits}
+use Rattle.lists.proofs.Intervals.{all-range}
 use Rattle.trees.proofs.tree.records_fit.Goals as goal
 
-pub loop-i-init : goal.loop-i-init
-loop-i-init c = passing-none _ 1
-
-pub returns-then-not-record_fits : goal.returns-then-not-record_fits
-returns-then-not-record_fits c =
-    sym (from-fails (record_fits c.args.tree.now c.args.size) (count c.args.tree.now) 1 c.loop-i.i (omega arith) (omega arith)
-    (sym c.record_fits.ensures ∙ c.if-not-record_fits.true))
-
-pub loop-i-preserved : goal.loop-i-preserved
-loop-i-preserved c = passing-more _ 1 c.loop-i.i c.loop-i.invariant (sym c.record_fits.ensures ∙ c.if-not-record_fits.false)
-
 pub returns : goal.returns
-returns c = sym (from_all (record_fits c.args.tree.now c.args.size) (count c.args.tree.now) 1 (λ j l u. c.loop-i.invariant j l (omega arith)))
+returns c =
+    let p = record_fits c.args.tree.now c.args.size in
+    let n = count c.args.tree.now in
+    all_from_yields_List p _ _ _ c.all.ensures.ran (YieldsList-from_range 1 (n + 1) n refl (omega arith)) (λ x b q k. search rules) ∙ all-range p n 1

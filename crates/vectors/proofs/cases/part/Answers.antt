@@ -5,4 +5,4 @@ use Rattle.vectors.proofs.cases.part.Goals as goal
 
 pub returns : goal.returns
 unfolding part_of
-returns c = rw (c.part.ensures, c.saturating_sub.ensures, c.end.ensures.0, c.end-from.ensures.0, add-one)
+returns c = rw (c.part.ensures, c.saturating_sub.ensures, c.end.ensures.0, c.end-from.ensures.0, c.from-k.ensures, add-one)

@@ -13,8 +13,8 @@ returns-then-count-parts c =
     elim c.if-count-numbers.branch [
       | then-count-numbers w ↦
           let second : eqb (byte_at c.args.case.now 2) c.args.parts ≡ true =
-          rw w.count-then-count-numbers.ensures.0 at (sym w.value-is ∙ c.if-count-parts.true) in
-          rw (eq-eqb (byte_at c.args.case.now 1) c.args.numbers (omega arith), second, c.end.ensures.0)
+          rw (← c.from-parts.ensures) (rw w.count-then-count-numbers.ensures.0 at (sym w.value-is ∙ c.if-count-parts.true)) in
+          rw (eq-eqb (byte_at c.args.case.now 1) c.args.numbers (omega arith), second, c.end.ensures.0, c.from-parts.ensures)
       | else-count-numbers w ↦ absurd (w.if-count-numbers.false (eqb-true _ _ (sym w.value-is ∙ c.if-count-parts.true)))
     ]
 
@@ -24,7 +24,7 @@ returns-else-count-parts c =
     elim c.if-count-numbers.branch [
       | then-count-numbers w ↦
           let second : eqb (byte_at c.args.case.now 2) c.args.parts ≡ false =
-          rw w.count-then-count-numbers.ensures.0 at (sym w.value-is ∙ c.if-count-parts.false) in
+          rw (← c.from-parts.ensures) (rw w.count-then-count-numbers.ensures.0 at (sym w.value-is ∙ c.if-count-parts.false)) in
           rw (eq-eqb (byte_at c.args.case.now 1) c.args.numbers (omega arith), second) c.if-count-parts.false
       | else-count-numbers w ↦
           rw (ne_eqb (byte_at c.args.case.now 1) c.args.numbers (λ e. w.if-count-numbers.false (c.count.ensures.0 ∙ e))) c.if-count-parts.false

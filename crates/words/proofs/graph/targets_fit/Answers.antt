@@ -1,14 +1,18 @@
--- Where each target that the loops read fits, all rows do; the first that does not is one that does not in its row. Assumes nothing.
-use mathlib.Core.Path.{sym, ap, ◌∙◌}
-use native.Mathlib.Omega.{arith}
-use Rattle.graph_rules.specs.Graph.{target_fits}
-use Rattle.words.proofs.Fitting.{rows_fit, rows-unfit}
+-- `words::graph::targets_fit` meets its contract: each row is judged. Assumes nothing.
+use Rattle.std.proofs.Common.{ℕ, Bool, [], get_or, drop, refl, ◌∙◌, rules, arith}
+use Rattle.std.proofs.lemmas.Iterator.{YieldsList-from_range}
+use Rattle.std.proofs.lemmas.Iterator.Search.{all_from_yields_List}
+use Rattle.lists.specs.Lists.{pieces}
+use Rattle.lists.proofs.Intervals.{all-range}
+use Rattle.graph_rules.specs.Layout.{row_words}
+use Rattle.graph_rules.specs.Graph.{row_fits}
+use Rattle.words.proofs.Fitting.{rows-judged}
 use Rattle.words.proofs.graph.targets_fit.Goals as goal
 
-pub returns-then-not-target_fits : goal.returns-then-not-target_fits
-returns-then-not-target_fits c =
-    sym (rows-unfit _ _ c.requires.n_in_bounds _ _ c.loop-s-test.true c.loop-c-test.true
-    (ap (target_fits c.args.n) (sym c.word.ensures.0) ∙ sym c.target_fits.ensures ∙ c.if-not-target_fits.true))
-
 pub returns : goal.returns
-returns c = sym (rows_fit _ _ c.requires.n_in_bounds (λ i j h b. c.loop-s.invariant i (omega arith) j b))
+returns c =
+    let a = c.args in
+    let p : ℕ → Bool = λ s. row_fits a.n (get_or (pieces row_words a.n (drop 2 a.graph.now)) s []) in
+    all_from_yields_List p _ _ _ c.all.ensures.ran (YieldsList-from_range 0 a.n a.n refl (omega arith)) (λ x b q k. search rules)
+    ∙ all-range p a.n 0
+    ∙ rows-judged a.graph.now a.n c.requires.n_in_bounds

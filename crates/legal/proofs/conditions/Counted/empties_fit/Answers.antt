@@ -1,12 +1,10 @@
--- The first flag above 1 breaks the condition. Assumes nothing.
-use native.Mathlib.Omega.{arith}
-use mathlib.Core.Path.{sym}
-use Rattle.lists.proofs.Judged.{judged-false}
+-- Every flag is judged. Assumes nothing.
+use borrow.Author.Tests.{tests}
+use Rattle.std.proofs.Common.{rules, refl}
+use Rattle.lists.proofs.Ranges.{all-judged_by}
 use Rattle.legal.proofs.Judging.{empties-judged}
 use Rattle.legal.proofs.conditions.Counted.empties_fit.Goals as goal
 
-pub returns-then-leaf_word-gt1 : goal.returns-then-leaf_word-gt1
-returns-then-leaf_word-gt1 c = sym (judged-false (empties-judged c.args.self.words.now) c.loop-l.l (omega arith) (λ b. omega arith))
-
 pub returns : goal.returns
-returns c = sym ((empties-judged c.args.self.words.now).all (λ l h. c.loop-l.invariant l (omega arith)))
+returns c =
+    all-judged_by _ _ _ c.all.result (empties-judged c.args.self.words.now) refl c.leaves.ensures.0 c.all.ensures.ran (λ x f k. search (rules, tests)) (λ x f k. search (rules, tests))

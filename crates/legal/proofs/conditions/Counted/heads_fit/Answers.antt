@@ -1,12 +1,10 @@
--- The first head above r breaks the condition. Assumes nothing.
-use native.Mathlib.Omega.{arith}
-use mathlib.Core.Path.{sym}
-use Rattle.lists.proofs.Judged.{judged-false}
+-- Every head is judged. Assumes nothing.
+use borrow.Author.Tests.{tests}
+use Rattle.std.proofs.Common.{rules, refl}
+use Rattle.lists.proofs.Ranges.{all-judged_by}
 use Rattle.legal.proofs.Judging.{heads-judged}
 use Rattle.legal.proofs.conditions.Counted.heads_fit.Goals as goal
 
-pub returns-then-records-row_word : goal.returns-then-records-row_word
-returns-then-records-row_word c = sym (judged-false (heads-judged c.args.self.words.now) c.loop-s.s (omega arith) (λ b. omega arith))
-
 pub returns : goal.returns
-returns c = sym ((heads-judged c.args.self.words.now).all (λ s h. c.loop-s.invariant s (omega arith)))
+returns c =
+    all-judged_by _ _ _ c.all.result (heads-judged c.args.self.words.now) refl c.states.ensures.0 c.all.ensures.ran (λ x f k. search (rules, tests)) (λ x f k. search (rules, tests))

@@ -8,4 +8,4 @@ returns-in-Some-clause-value c = λ r. rw (sym c.in-Some.ensures.value)
 
 pub returns-in-None-clause-value : goal.returns-in-None-clause-value
 unfolding graph_walker
-returns-in-None-clause-value c = λ r. rw (sym c.in-None.ensures.value, sym c.accept.ensures.value) (c.late-accepted.ensures.value r)
+returns-in-None-clause-value c = λ r. rw (sym c.in-None.ensures.value, sym c.accept.ensures.value) (c.late.ensures.value r)
