@@ -14,10 +14,11 @@ use Rattle.lists.specs.Lists.{all_l}
 use Rattle.lists.proofs.Bools.{and_intro}
 use Rattle.texts.specs.Text.{digit_byte, decimal}
 use Rattle.angles.specs.declared.Angle.TheVariants.{Hundredths}
-use Rattle.angles.specs.Angles.{limit, is_digit, number, parts, text_of, written_of, angle_of}
+use Rattle.angles.specs.declared.Written.{Written}
+use Rattle.angles.specs.Angles.{limit, is_digit, number, parts, text_of, written_of, written_in_range, angle_of}
 use Rattle.angles.specs.Meaning.{none, hyphen, Shows}
 use Rattle.angles.proofs.Numbers.{digit-is, decimal-digits, decimal-number, decimal-some}
-use Rattle.angles.proofs.Laid.{degrees-size, written-some}
+use Rattle.angles.proofs.Laid.{degrees-size, written-some, in_range-some}
 use Rattle.angles.proofs.Means.{angle-shown}
 
 -- the two digits after the point
@@ -62,12 +63,17 @@ written-shows (negsuc n) h =
     }
 
 -- the text is what the length says
-pub written-text : (v : ℤ) → nat_abs v ≤ limit → IsSomeAnd (written_of v) (λ w. take w.length w.bytes ≡ text_of (lt_z v (pos 0)) (nat_abs v))
+pub written-text : (v : ℤ) → nat_abs v ≤ limit → take (written_of v).length (written_of v).bytes ≡ text_of (lt_z v (pos 0)) (nat_abs v)
 written-text v h =
     let t = text_of (lt_z v (pos 0)) (nat_abs v) in
-    rw (written-some v h) (take_at t (replicate (7 - length t) 0) (length t) refl)
+    ap (λ (w : Written). take w.length w.bytes) (written-some v h) ∙ take_at t (replicate (7 - length t) 0) (length t) refl
 
-pub write_read : (v : ℤ) → nat_abs v ≤ limit → IsSomeAnd (written_of v) (λ w. angle_of (take w.length w.bytes) ≡ Hundredths v)
-write_read v h =
-    let t = text_of (lt_z v (pos 0)) (nat_abs v) in
-    rw (written-some v h) (ap angle_of (take_at t (replicate (7 - length t) 0) (length t) refl) ∙ angle-shown t v (written-shows v h))
+pub write_read : (v : ℤ) → nat_abs v ≤ limit → angle_of (take (written_of v).length (written_of v).bytes) ≡ Hundredths v
+write_read v h = ap angle_of (written-text v h) ∙ angle-shown (text_of (lt_z v (pos 0)) (nat_abs v)) v (written-shows v h)
+
+-- as an option
+pub in_range-text : (v : ℤ) → nat_abs v ≤ limit → IsSomeAnd (written_in_range v) (λ w. take w.length w.bytes ≡ text_of (lt_z v (pos 0)) (nat_abs v))
+in_range-text v h = rw (in_range-some v h) (written-text v h)
+
+pub in_range-read : (v : ℤ) → nat_abs v ≤ limit → IsSomeAnd (written_in_range v) (λ w. angle_of (take w.length w.bytes) ≡ Hundredths v)
+in_range-read v h = rw (in_range-some v h) (write_read v h)

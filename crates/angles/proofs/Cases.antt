@@ -1,15 +1,15 @@
 -- Texts read and angles written, computed. Assumes nothing.
-use Rattle.std.specs.Prelude.{Option, Some, None}
+use Rattle.std.specs.Prelude.{Some, None}
 use mathlib.Core.Path.{◌≡◌, refl}
 use mathlib.Core.List.{List, [], ◌∷◌, ◌++◌, map}
 use Prim.Native.Nat.{ℕ, ◌-◌}
-use lib.IntN.{pos, negsuc}
+use lib.IntN.{ℤ, pos, negsuc}
 use lib.ListN.{replicate}
 use Rattle.texts.specs.Text.{bytes, decimal}
 use Rattle.angles.specs.declared.Angle.{Angle}
 use Rattle.angles.specs.declared.Angle.TheVariants.{Hundredths, Missing, NotAnAngle}
 use Rattle.angles.specs.declared.Written.{Written}
-use Rattle.angles.specs.Angles.{angle_of, shaped, magnitude, text_of, written_of}
+use Rattle.angles.specs.Angles.{angle_of, shaped, magnitude, text_of, written_of, written_in_range}
 
 abbrev read : List (List ℕ) → List Angle
 read ts = map angle_of ts
@@ -82,15 +82,32 @@ too-far-read = refl
 
 -- ---- written
 
-abbrev of : ℕ → List ℕ → Option Written
-of n bytes = Some (record { bytes = bytes ++ replicate (7 - n) 0; length = n })
+abbrev of : ℕ → List ℕ → Written
+of n bytes = record { bytes = bytes ++ replicate (7 - n) 0; length = n }
 
-pub written : map written_of (pos 0 ∷ pos 5 ∷ negsuc 4 ∷ negsuc 49 ∷ pos 999 ∷ pos 1000 ∷ pos 18000 ∷ negsuc 17999 ∷ [])
-    ≡ of 4 (bytes "0.00") ∷ of 4 (bytes "0.05") ∷ of 5 (bytes "-0.05") ∷ of 5 (bytes "-0.50") ∷ of 4 (bytes "9.99") ∷ of 5 (bytes "10.00")
+abbrev near : List ℤ
+near = pos 0 ∷ pos 5 ∷ negsuc 4 ∷ negsuc 49 ∷ pos 999 ∷ pos 1000 ∷ pos 18000 ∷ negsuc 17999 ∷ []
+
+abbrev texts : List Written
+texts =
+    of 4 (bytes "0.00") ∷ of 4 (bytes "0.05") ∷ of 5 (bytes "-0.05") ∷ of 5 (bytes "-0.50") ∷ of 4 (bytes "9.99") ∷ of 5 (bytes "10.00")
     ∷ of 6 (bytes "180.00") ∷ of 7 (bytes "-180.00") ∷ []
+
+pub written : map written_of near ≡ texts
 unfolding written_of text_of decimal
 written = refl
 
-pub not_written : map written_of (pos 18001 ∷ negsuc 18000 ∷ pos 2147483647 ∷ negsuc 2147483647 ∷ []) ≡ None ∷ None ∷ None ∷ None ∷ []
+pub some_written : map written_in_range near ≡ map Some texts
+unfolding written_in_range written_of text_of decimal
+some_written = refl
+
+abbrev far : List ℤ
+far = pos 18001 ∷ negsuc 18000 ∷ pos 2147483647 ∷ negsuc 2147483647 ∷ []
+
+pub not_written : map written_of far ≡ map (λ v. of 0 []) far
 unfolding written_of text_of decimal
 not_written = refl
+
+pub none_written : map written_in_range far ≡ map (λ v. None) far
+unfolding written_in_range written_of text_of decimal
+none_written = refl

@@ -16,10 +16,10 @@ use Rattle.lists.specs.Lists.{all_l}
 use Rattle.lists.proofs.Bools.{and_both, and_intro, lt-or-le}
 use Rattle.texts.specs.Text.{digit_byte, decimal}
 use Rattle.texts.proofs.Decimals.{decimal-one}
-use Rattle.angles.specs.Angles.{plus_byte, point_byte, limit, is_digit, is_hyphen, body, hyphen, text_of, padded, written_of}
+use Rattle.angles.specs.Angles.{plus_byte, point_byte, limit, is_digit, is_hyphen, body, hyphen, text_of, padded, written_of, written_in_range}
 use Rattle.lists.proofs.Elements.{all_join}
 use Rattle.angles.proofs.Numbers.{digit-from, digit-no-sign, digit-no-hyphen, first-digit, decimal-digits, decimal-some, decimal-first}
-use Rattle.angles.proofs.Laid.{text-length, text-size, written_none, written-some}
+use Rattle.angles.proofs.Laid.{text-length, text-size, written_none, written-some, in_range_none, in_range-some}
 use Rattle.angles.specs.Meaning.{none, no_plus, Form}
 use Rattle.angles.proofs.Parts.{body_is}
 use Rattle.angles.proofs.Back.{ends, ends-digits}
@@ -125,9 +125,16 @@ padded-form v h =
       zeros = drop_at t z (length t) refl;
     }
 
-pub written-form : (v : ℤ) → nat_abs v ≤ limit → IsSomeAnd (written_of v) (Form v)
+pub written-form : (v : ℤ) → nat_abs v ≤ limit → Form v (written_of v)
 written-form v h = rw (written-some v h) (padded-form v h)
 
--- out of range
-pub unwritten-form : (v : ℤ) → limit < nat_abs v → written_of v ≡ None
+-- out of range: seven zeros, and no length
+pub unwritten-form : (v : ℤ) → limit < nat_abs v → written_of v ≡ record { bytes = replicate 7 0; length = 0 }
 unwritten-form v h = sym (written_none v h)
+
+-- as an option
+pub in_range-form : (v : ℤ) → nat_abs v ≤ limit → IsSomeAnd (written_in_range v) (Form v)
+in_range-form v h = rw (in_range-some v h) (written-form v h)
+
+pub out_of_range : (v : ℤ) → limit < nat_abs v → written_in_range v ≡ None
+out_of_range v h = sym (in_range_none v h)

@@ -95,5 +95,9 @@ abbrev pub padded : List ℕ → Written
 padded t = record { bytes = t ++ replicate (7 - length t) 0; length = length t }
 
 -- a value out of range has no text
-unfoldable pub written_of : ℤ → Option Written
-written_of v = cond (leb (nat_abs v) limit) (Some (padded (text_of (lt_z v (pos 0)) (nat_abs v)))) None
+unfoldable pub written_of : ℤ → Written
+written_of v = cond (leb (nat_abs v) limit) (padded (text_of (lt_z v (pos 0)) (nat_abs v))) (padded [])
+
+-- the same as an option: there is a text, or none
+unfoldable pub written_in_range : ℤ → Option Written
+written_in_range v = cond (leb (nat_abs v) limit) (Some (written_of v)) None

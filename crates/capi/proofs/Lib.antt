@@ -3,4 +3,3 @@ pub mod Blocks
 pub mod Columns
 pub mod HeldStores
 pub mod HeldPlans
-pub mod Texts

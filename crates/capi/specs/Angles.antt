@@ -1,8 +1,6 @@
 -- An angle in two numbers, which kind of answer it is and the hundredths. Without an angle the hundredths are a value that no angle has, so that a
 -- missing angle is never taken for 0. Definitions only.
-use Rattle.std.specs.Prelude.{[], ℕ, ℤ, negsuc, unwrap_or}
-use Rattle.angles.specs.Angles.{padded, written_of}
-use Rattle.angles.specs.declared.Written.{Written}
+use Rattle.std.specs.Prelude.{ℕ, ℤ, negsuc}
 use Rattle.angles.specs.declared.Angle.{Angle}
 use Rattle.angles.specs.declared.Angle.TheVariants.{Hundredths, Missing, NotAnAngle}
 
@@ -19,7 +17,3 @@ abbrev pub hundredths_of : Angle → ℤ
 hundredths_of NotAnAngle = no_angle
 hundredths_of (Hundredths v) = v
 hundredths_of Missing = no_angle
-
--- the text that is handed out: seven zeros, of no length, for a value out of range
-abbrev pub text_of : ℤ → Written
-text_of hundredths = unwrap_or (written_of hundredths) (padded [])

@@ -1,19 +1,13 @@
 // Angles in hundredths of a degree, read from a text and written.
 ghost use Rattle.std.specs.Prelude.{◌≡◌, [], ◌∷◌};
-ghost use Rattle.angles.specs.Angles.{angle_of};
-ghost use Rattle.capi.specs.Angles.{kind_of, hundredths_of, text_of};
+ghost use Rattle.angles.specs.Angles.{angle_of, written_of};
+ghost use Rattle.capi.specs.Angles.{kind_of, hundredths_of};
 ghost use Rattle.capi.specs.Lent.{put, put_report};
 
-use angles::{Angle, Written};
+use angles::Angle;
 
 // What the hundredths are where there is no angle: the least number, which no angle has. (C has numbers for this, and for the kind.)
 const NO_ANGLE: i32 = -2147483648;
-
-// What is handed out where there is no text.
-const NO_TEXT: Written = Written {
-    bytes: [0; 7],
-    length: 0,
-};
 
 // An angle, stored.
 fn store(answer: Angle, kind: &mut usize, hundredths: &mut i32) -> u8
@@ -38,9 +32,9 @@ pub extern "C" fn balthwyr_read_angle(text: &[u8], kind: &mut usize, hundredths:
 // `write`: the seven bytes in a lent block.
 #[unsafe(no_mangle)]
 pub extern "C" fn balthwyr_write_angle(hundredths: i32, text: &mut [u8], length: &mut usize) -> u8
-    ensures hundredths_value { put_report (put (text_of hundredths).bytes text.old) (text_of hundredths).length ≡ record { refusal = result; values = length.new ∷ [] } }
-    ensures text_after { text.new ≡ (put (text_of hundredths).bytes text.old).block }
+    ensures hundredths_value { put_report (put (written_of hundredths).bytes text.old) (written_of hundredths).length ≡ record { refusal = result; values = length.new ∷ [] } }
+    ensures text_after { text.new ≡ (put (written_of hundredths).bytes text.old).block }
 {
-    let written = angles::write(hundredths).unwrap_or(NO_TEXT);
+    let written = angles::write(hundredths);
     crate::lent::put_counted(&written.bytes, written.length, text, length)
 }

@@ -1,20 +1,15 @@
--- The text is laid out, or there is none. Assumes nothing.
-use Rattle.std.proofs.Common.{ℤ, nat_abs, pos, ap, ◌∙◌, arith}
-use lib.Signed.{lt_z}
+-- What is written in range, or seven zeros. Assumes nothing.
+use Rattle.std.proofs.Common.{[], sym, ap, ◌∙◌}
+use Rattle.std.specs.Prelude.{Option, unwrap_or}
 use mir.Syntax.{w32}
 use mir.ValLaws.{to_z-of_z}
-use Rattle.angles.proofs.Laid.{written_none, written-laid}
+use Rattle.angles.specs.declared.Written.{Written}
+use Rattle.angles.specs.Angles.{padded, written_in_range}
+use Rattle.angles.proofs.Laid.{written-unwrap_or}
 use Rattle.angles.proofs.write.Goals as goal
-
-pub returns-then-size-gt-LIMIT : goal.returns-then-size-gt-LIMIT
-returns-then-size-gt-LIMIT c =
-    let v = c.args.hundredths in
-    let size = c.unsigned_abs-size.ensures.value ∙ ap nat_abs (to_z-of_z w32 v c.ranges.hundredths) in
-    written_none v (omega (arith, size))
 
 pub returns : goal.returns
 returns c =
     let v = c.args.hundredths in
-    let read = to_z-of_z w32 v c.ranges.hundredths in
-    let size = c.unsigned_abs-size.ensures.value ∙ ap nat_abs read in
-    written-laid v (ap (λ (x : ℤ). lt_z x (pos 0)) read) size (omega arith) c.text-length.ensures
+    let some = c.write_in_range.ensures ∙ ap written_in_range (to_z-of_z w32 v c.ranges.hundredths) in
+    c.unwrap_or.ensures ∙ ap (λ (o : Option Written). unwrap_or o (padded [])) some ∙ sym (written-unwrap_or v)
