@@ -13,6 +13,15 @@ use Rattle.graph_rules.specs.Read.{Reading, read_graph, read_table}
 abbrev pub recorded : ℕ → ℕ → Reading
 recorded leaf end = cond (eqb leaf no_leaf) None (Some (record { leaf = leaf; end = end }))
 
+-- and the two words of a record
+abbrev pub leaf_word : Reading → ℕ
+leaf_word None = no_leaf
+leaf_word (Some f) = f.leaf
+
+abbrev pub end_word : Reading → ℕ
+end_word None = 0
+end_word (Some f) = f.end
+
 -- in numbers: whether there is a reading, its leaf, its end
 abbrev pub found_values : Reading → List ℕ
 found_values None = 0 ∷ 0 ∷ 0 ∷ []

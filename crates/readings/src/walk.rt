@@ -4,7 +4,7 @@ ghost use Rattle.std.specs.Prelude.{◌≡◌, ℕ, ◌<◌, None, IfSome};
 ghost use Rattle.std.specs.Option.{option_or};
 ghost use Rattle.graph_rules.specs.Layout.{step_count, no_leaf};
 ghost use Rattle.graph_rules.specs.Read.{Reading, onward, walk};
-ghost use Rattle.readings.specs.Answers.{recorded};
+ghost use Rattle.readings.specs.Answers.{recorded, leaf_word, end_word};
 
 use graph_rules::Found;
 use std::marker::Model;
@@ -14,7 +14,7 @@ use words::graph::NO_LEAF;
 // The last record of a walk, if there is one. The walk is hot, and holds it in two words, leaf 255 for none: with an `Option<Found>` in its place a byte
 // took a fifth more instructions. A walk hands it out as it is, in two registers: a reading made there went through memory, and a scan of short tokens
 // took a third more.
-#[derive(Drop)]
+#[derive(Clone, Copy)]
 pub struct Last {
     leaf: usize,
     end: usize,
@@ -24,6 +24,11 @@ impl Model for Last {
     ghost Value = { Reading };
 
     ghost view = { λ r. recorded r.leaf r.end };
+
+    // Without a leaf the end is 0, so that the reading gives both words back.
+    ghost invariant = { λ r. r.leaf ≡ no_leaf → r.end ≡ 0 };
+
+    ghost inverse = { λ d. record { leaf = leaf_word d; end = end_word d } };
 }
 
 impl Last {

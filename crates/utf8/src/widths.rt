@@ -25,7 +25,7 @@ const WIDTHS: [u8; 256] = [
 ];
 
 // The table of widths, to be lent: a constant that is read in place is laid out anew at each reading.
-#[derive(Drop)]
+#[derive(Clone, Copy)]
 pub struct Widths {
     table: [u8; 256],
     ghost right: { table ≡ tab 0 256 width_of },
