@@ -1,5 +1,5 @@
 -- How a byte is tested for an edge, by whether it is the self edge and by what its class costs. Assumes nothing.
-use Rattle.std.proofs.Common.{◌≡◌, sym, ap, ◌∙◌, [], ◌⊎◌, inl, inr, ℕ, ◌≤◌, ◌<◌, lt-ltb, le-ltb, eq-eqb, ne_eqb}
+use Rattle.std.proofs.Common.{◌≡◌, sym, ap, ◌∙◌, [], ◌⊎◌, inl, inr, ℕ, ◌≤◌, ◌<◌, lt-ltb, le-ltb, eq-eqb, ne_eqb, ◌∷◌}
 use Rattle.graph_rules.specs.Graph.{State}
 use Rattle.classes.specs.Classes.{Class, cost}
 use Rattle.edges.specs.Edges.{class_to}
@@ -25,3 +25,6 @@ module _ (st : State) (s u : ℕ) where
 pub unmasked : {w v : Way} (c : Class) → (w ≡ BySelf) ⊎ (w ≡ ByTests) → w ≡ v → masked v c ≡ []
 unmasked c (inl e) q = ap (λ (x : Way). masked x c) (sym q ∙ e)
 unmasked c (inr e) q = ap (λ (x : Way). masked x c) (sym q ∙ e)
+
+pub masked-one : {w v : Way} (c : Class) → w ≡ ByMask → w ≡ v → c ∷ [] ≡ masked v c
+masked-one c e q = ap (λ (x : Way). masked x c) (sym e ∙ q)

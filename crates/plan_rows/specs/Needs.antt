@@ -15,6 +15,11 @@ abbrev pub stored : Result Allowed Refusal → Result MaskStore Refusal
 stored (Ok s) = Ok s.store
 stored (Err r) = Err r
 
+-- the same of a call that grows a store which it is lent
+abbrev pub after : {A : Type 0} → Result A Refusal → Allowed → Result MaskStore Refusal
+after (Ok a) s = Ok s.store
+after (Err r) s = Err r
+
 unfoldable pub grown_by : MaskStore → List Class → Result MaskStore Refusal
 grown_by store cs = cond (takes store cs) (Ok (grown store cs)) (Err Store)
 

@@ -16,7 +16,9 @@ use Rattle.plan_rules.specs.Run.{edge_takes, along, led_by, rows_of}
 use Rattle.plan_rows.proofs.Forks.{target_below}
 use Rattle.plan_rows.proofs.Words.{said-other}
 use Rattle.runner.specs.declared.planned.Planned.{Planned}
-use Rattle.runner.specs.Prepared.{no_edge, tests_of, targets_of, edge_at, led_along}
+use Rattle.runner.specs.declared.edge.Edge.{Edge}
+use Rattle.runner.specs.Prepared.{no_edge, tests_of, targets_of, edge_at, edge_to, led_along}
+use Rattle.runner.proofs.Preparing.{kept-target, kept-tests}
 use Rattle.runner.proofs.OnPlan.{self-few, led-table, led-edges, no_table, edge_few, edge-missing, edge-compared}
 
 -- ---- along the first two edges of a state
@@ -102,6 +104,10 @@ module _ (p : Planned) where
     pub place-there : (j : ℕ) → j < base.edges → edge_at s j < length p.edges.now
     place-there j l = let r = p.size in omega (arith, state-few)
 
+    -- the edge that is kept there
+    kept-edge : (j : ℕ) → j < base.edges → get_or p.edges.now (edge_at s j) no_edge ≡ edge_to g s (slice_get ts j)
+    kept-edge j l = p.prepared s j inside l
+
     pub mask-few : get_or p.plan.now (own_place base s) 0 ≤ most_masks
     mask-few = self-few g p.plan.now p.plan_on s inside
 
@@ -157,7 +163,7 @@ module _ (p : Planned) where
               takes-by x (λ q. let m = missing q in absurd (omega arith))
               (λ u q.
               rw z
-              (h ∙ ap (λ x. some_holds x b) (((p.prepared s j inside l).1 (no_table g p.plan.now p.plan_on s inside plain) u q (edge-compared g p.plan.now p.plan_on s inside plain j l z q)))))
+              (h ∙ ap (λ x. some_holds x b) (ap tests_of (kept-edge j l ∙ ap (edge_to g s) q) ∙ kept-tests g s u (no_table g p.plan.now p.plan_on s inside plain) (edge-compared g p.plan.now p.plan_on s inside plain j l z q))))
 
           pub takes-mask : {i : ℕ} → Mask i ≡ edge_said word → {x : Bool} → x ≡ mask_has p.tables.now i b → Takes x
           takes-mask {i} e {x} h =
@@ -172,7 +178,7 @@ module _ (p : Planned) where
               go : (o : Option ℕ) → slice_get ts j ≡ o → MatchOption o (x ≡ false) (λ u. x ≡ edge_takes p.tables.now st u word b)
                   → Some (get_or p.edges.now (edge_at s j) no_edge).target ≡ led_along p.tables.now st o word b
               go None q k = let z : true ≡ false = sym e ∙ k in cc
-              go (Some u) q k = rw (sym k ∙ e) (ap (λ (m : ℕ). Some m) ((p.prepared s j inside l).0 ∙ ap (λ (x : Option ℕ). unwrap_or x 0) q))
+              go (Some u) q k = rw (sym k ∙ e) (ap (λ (m : ℕ). Some m) (ap (λ (e : Edge). e.target) (kept-edge j l) ∙ kept-target g s (slice_get ts j) ∙ ap (λ (x : Option ℕ). unwrap_or x 0) q))
 
           pub leads-not : {x : Bool} → Takes x → x ≡ false → None ≡ led_along p.tables.now st (slice_get ts j) word b
           leads-not {x} t e = go (slice_get ts j) t

@@ -1,14 +1,15 @@
 -- What is worked out of a graph before texts are run by its plan: the targets of each state's first two edges, and, where its edges are tested one by
 -- one, the comparisons of those that are tested by them; of which plan words a run is asked; and where an edge leads a byte. Definitions only.
-use Rattle.std.specs.Prelude.{◌≡◌, true, false, cond, Option, Some, None, List, [], ℕ, ◌+◌, ◌*◌, ◌<◌, ◌≤◌, length, get_or, take, slice_get, unwrap_or}
-use Rattle.std.specs.Option.{ForSome}
+use Rattle.std.specs.Prelude.{◌≡◌, true, cond, Option, Some, None, List, [], ℕ, ◌+◌, ◌*◌, ◌<◌, ◌≤◌, length, get_or, take, replicate, slice_get}
 use Rattle.lists.specs.Lists.{all_l}
 use Rattle.graph_rules.specs.Layout.{most_states}
 use Rattle.graph_rules.specs.Graph.{State, Graph, state_of}
 use Rattle.classes.specs.Classes.{Class, Comparison, comparisons}
-use Rattle.classes.specs.ClassAnswers.{listed}
+use Rattle.classes.specs.declared.byte_class.Comparisons.{Comparisons}
+use Rattle.classes.specs.ClassAnswers.{as_comparisons, listed, no_entry}
 use Rattle.edges.specs.Edges.{class_to, targets}
-use Rattle.plan_rules.specs.declared.Way.TheVariants.{ByTests}
+use Rattle.plan_rules.specs.declared.Way.{Way}
+use Rattle.plan_rules.specs.declared.Way.TheVariants.{BySelf, ByTests, ByMask}
 use Rattle.plan_rules.specs.Plan.{base, by_table, way_to, plan_words, plan_size}
 use Rattle.plan_rules.specs.Run.{edge_takes, row_held, rows_of}
 use Rattle.runner.specs.declared.edge.Edge.{Edge}
@@ -33,14 +34,28 @@ edge_at s j = base.edges * s + j
 abbrev pub edges_size : ℕ
 edges_size = base.edges * most_states
 
--- the edge from state s to its target t is kept as e; 0 is the target where there is none, and a state that is run by a table needs no comparisons
-abbrev pub EdgeIs : Graph → ℕ → Option ℕ → Edge → Type 0
-EdgeIs g s t e =
-    (e.target ≡ unwrap_or t 0)
-    × (by_table base (targets_of g s) ≡ false → ForSome t (λ u. way_to base (state_of g s) s u ≡ ByTests → tests_of e ≡ comparisons (class_to (state_of g s) u)))
+-- an edge that is tested by no comparisons
+abbrev pub untested : ℕ → Edge
+untested u = record { target = u; count = 0; list = replicate 3 no_entry; except = replicate 2 0 }
 
+-- an edge that is tested by these: three at most, and two exceptions
+abbrev pub tested : ℕ → Comparisons → Edge
+tested u laid = record { target = u; count = laid.count; list = take 3 laid.list; except = take 2 laid.except }
+
+abbrev pub by_way : Way → Class → ℕ → Edge
+by_way ByTests c u = tested u (as_comparisons (comparisons c))
+by_way BySelf c u = untested u
+by_way ByMask c u = untested u
+
+-- the edge from state s to its target, as it is kept: 0 is the target where there is none, and a state that is run by a table needs no comparisons
+unfoldable pub edge_to : Graph → ℕ → Option ℕ → Edge
+edge_to g s None = untested 0
+edge_to g s (Some u) =
+    cond (by_table base (targets_of g s)) (untested u) (by_way (way_to base (state_of g s) s u) (class_to (state_of g s) u) u)
+
+-- the edges of all states are kept
 abbrev pub Prepared : Graph → List Edge → Type 0
-Prepared g edges = (s j : ℕ) → s < length g.states → j < base.edges → EdgeIs g s (slice_get (targets_of g s) j) (get_or edges (edge_at s j) no_edge)
+Prepared g edges = (s j : ℕ) → s < length g.states → j < base.edges → get_or edges (edge_at s j) no_edge ≡ edge_to g s (slice_get (targets_of g s) j)
 
 -- the words begin with the plan that some classes give, at most 64, and name none but these
 pub record PlanOn (g : Graph) (words : List ℕ) : Type 0 where

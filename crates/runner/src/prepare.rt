@@ -1,9 +1,9 @@
 // What is worked out of a graph before texts are run by its plan.
-ghost use Rattle.std.specs.Prelude.{◌≡◌, ◌<◌, length, get_or, IfSome};
+ghost use Rattle.std.specs.Prelude.{◌≡◌, ℕ, ◌<◌, ◌≤◌, length, get_or, IfSome};
 ghost use Rattle.graph_rules.specs.Layout.{most_states};
 ghost use Rattle.graph_rules.specs.Graph.{graph_from};
-ghost use Rattle.plan_rules.specs.Plan.{base};
-ghost use Rattle.runner.specs.Prepared.{edge_at, edges_size, EdgeIs, Prepared};
+ghost use Rattle.plan_rules.specs.Plan.{base, by_table};
+ghost use Rattle.runner.specs.Prepared.{edge_at, edges_size, edge_to, no_edge, targets_of, Prepared};
 
 use crate::edge::{Edge, NO_EDGE};
 use classes::byte_class::impl_with_cmp;
@@ -23,17 +23,21 @@ pub(crate) fn edge_place(s: usize, j: usize) -> usize
     EDGES * s + j
 }
 
-// The edge from state s to its target, if there is one, with its comparisons if it is tested by them. A class that costs at most 2 has at most three
-// comparisons, and two exceptions.
-fn edge_to(graph: Graph<'_>, s: usize, target: Option<usize>) -> Edge
+// The edge from state s to its target, if there is one, with its comparisons if it is tested by them: no edge of a state that is run by a table is. A class
+// that costs at most 2 has at most three comparisons, and two exceptions.
+fn edge_to(graph: Graph<'_>, s: usize, target: Option<usize>, tabled: bool) -> Edge
     requires s_bound { s < get_or graph.words.now 0 0 }
     requires target_bound { IfSome target (λ u. u < get_or graph.words.now 0 0) }
-    ensures { EdgeIs (graph_from graph.entry.words.now) s target result }
+    requires tabled_value { tabled ≡ by_table base (targets_of (graph_from graph.words.now) s) }
+    ensures { result ≡ edge_to (graph_from graph.entry.words.now) s target }
 {
     let Some(u) = target else {
         return NO_EDGE;
     };
     let target = u as u16;
+    if tabled {
+        return Edge { target, ..NO_EDGE };
+    }
     match way_to(graph, s, u) {
         Way::ByTests => {
             let cmp = impl_with_cmp(&edges::class_to(graph, s, u));
@@ -48,15 +52,17 @@ fn edge_to(graph: Graph<'_>, s: usize, target: Option<usize>) -> Edge
     }
 }
 
-// The edges of each state to its lowest two targets.
+// The edges of each state to its lowest two targets; those behind them are as found.
 pub fn prepare(graph: Graph<'_>, edges: &mut [Edge])
     requires { length edges.old ≡ edges_size }
     ensures prepared { Prepared (graph_from graph.entry.words.now) edges.new }
+    ensures rest { (i : ℕ) → edge_at (get_or graph.entry.words.now 0 0) 0 ≤ i → get_or edges.new i no_edge ≡ get_or edges.old i no_edge }
     ensures size { length edges.new ≡ edges_size }
 {
     for s in 0..graph.states() {
-        let lowest = fork_at(graph, s).lowest;
-        edges[edge_place(s, 0)] = edge_to(graph, s, lowest[0]);
-        edges[edge_place(s, 1)] = edge_to(graph, s, lowest[1]);
+        let fork = fork_at(graph, s);
+        let tabled = fork.by_table();
+        edges[edge_place(s, 0)] = edge_to(graph, s, fork.lowest[0], tabled);
+        edges[edge_place(s, 1)] = edge_to(graph, s, fork.lowest[1], tabled);
     }
 }
