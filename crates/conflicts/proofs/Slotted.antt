@@ -61,6 +61,9 @@ module _ (i j : Record) where
   pub equal-before : leaf i ≡ leaf j → (o p : Option Record) → NextTied i o → NextTied j p → before (tie_of i) (tie_of j) ≡ before (tie_on o) (tie_on p)
   equal-before e o p n m = ap₂ before (tie-next i o n) (tie-next j p m) ∙ before-equal (leaf i) (leaf j) (tie_on o) (tie_on p) e
 
+  pub ended-before : leaf i ≡ leaf j → NextTied i None → before (tie_of i) (tie_of j) ≡ true
+  ended-before e n = ap₂ before (tie-next i None n) (tie-begins j) ∙ before-equal (leaf i) (leaf j) [] (rest j) e
+
 -- ---- the place of a list among those in order
 
 pub insert-slot : (a : List ℕ) (l : List (List ℕ)) → insert a l ≡ take (slot a l) l ++ (a ∷ drop (slot a l) l)
