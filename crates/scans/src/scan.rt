@@ -2,7 +2,7 @@
 ghost use Rattle.std.specs.Prelude.{◌≡◌, ◌+◌, ◌<◌, ◌≤◌, length, drop, IfSome, Err};
 ghost use Rattle.graph_rules.specs.Graph.{graph_from};
 ghost use Rattle.graph_rules.specs.Read.{read_graph};
-ghost use Rattle.scans.specs.Scan.{fresh, end_of, gap_at, entry_of, scan_of, next};
+ghost use Rattle.scans.specs.Scan.{fresh, end_of, gap_length, entry_of, scan_of, next};
 
 use crate::reader::Reader;
 use graph_rules::Found;
@@ -53,17 +53,14 @@ impl Piece {
     }
 }
 
-// The gap at an offset below the length. Gaps are few: out of the way, they do not make the end of a token wait for a choice.
+// Where the gap at an offset below the length ends. Gaps are few: out of the way, they do not make the end of a token wait for a choice.
 #[cold]
 #[inline(never)]
-fn gap(text: &[u8], at: usize) -> Piece
+fn gap_end(text: &[u8], at: usize) -> usize
     requires { at < length text.now }
-    ensures { result ≡ gap_at text.now at }
+    ensures { result ≡ at + gap_length text.now at }
 {
-    Piece::Gap {
-        start: at,
-        end: at + 1,
-    }
+    at + 1
 }
 
 // The token or gap at an offset below the length, by a reading from there on, which ends in the text.
@@ -78,7 +75,10 @@ fn entry_by(text: &[u8], at: usize, reading: Option<Found>) -> Piece
             start: at,
             end: at + found.end,
         },
-        _ => gap(text, at),
+        _ => Piece::Gap {
+            start: at,
+            end: gap_end(text, at),
+        },
     }
 }
 
