@@ -46,7 +46,8 @@ fn comparison(case: &[u8]) -> Option<Comparison> {
     })
 }
 
+// A list says 0 of what is no comparison.
 pub(crate) fn ops_alike(case: &[u8]) -> bool {
     shaped(case, 4, 0)
-        && comparison(case).is_some_and(|c| classes::byte_class::count_ops(c) == number(case, 3))
+        && comparison(case).map_or(0, |c| classes::byte_class::count_ops(c)) == number(case, 3)
 }

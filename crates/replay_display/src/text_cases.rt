@@ -2,19 +2,18 @@
 use refusals::Refusal;
 use vectors::answers::answer;
 use vectors::cases::{number, part, shaped, words};
-use vectors::parts::{filled, written};
+use vectors::parts::{filled, rest_is, written};
 use vectors::words::front;
 
 // Room for the words of a graph of 1,024 states and of one more.
 const WORDS: usize = 265216;
 
-// A case with its number: the words that a call is given, what it answers, and the text that it writes.
+// A case: the words that a call is given, what it answers, and the text that it writes.
 #[derive(Clone, Copy)]
 struct Shown<'a> {
     pub words: &'a [u16],
     pub answer: Result<usize, Refusal>,
     pub text: &'a [u8],
-    pub number: usize,
 }
 
 impl Shown<'_> {
@@ -23,21 +22,22 @@ impl Shown<'_> {
     fn alike<F: Fn(&[u16], &mut [u8]) -> Result<usize, Refusal>>(
         self,
         call: &F,
+        before: &[u8; 65536],
         room: usize,
     ) -> bool
         requires { F.IsAlwaysCallable call.now }
     {
-        let before = filled(self.number);
-        let mut out = before;
+        let mut out = *before;
         if out.len() < room {
             return false;
         }
-        let (answer, text) = if room < self.text.len() {
-            (Err(Refusal::NoRoom), &self.text[..0])
+        let answer = if room < self.text.len() {
+            Err(Refusal::NoRoom)
         } else {
-            (self.answer, self.text)
+            self.answer
         };
-        call(self.words, &mut out[..room]) == answer && written(&out[..room], text, &before)
+        let text = if answer.is_ok() { self.text } else { &[] };
+        call(self.words, &mut out[..room]) == answer && written(&out[..room], text, before)
     }
 }
 
@@ -61,10 +61,12 @@ pub(crate) fn alike<F: Fn(&[u16], &mut [u8]) -> Result<usize, Refusal> + Drop>(
         words: front(&room, n),
         answer,
         text,
-        number: i,
     };
+    let before = filled(i);
+    // (Beside a refusal a list has no text, or any length of the byte that the buffer begins with.)
     shaped(case, 1, 2)
-        && shown.alike(&call, 65536)
-        && shown.alike(&call, text.len())
-        && (text.len() == 0 || shown.alike(&call, text.len() - 1))
+        && (answer.is_ok() || rest_is(text, 0, before[0]))
+        && shown.alike(&call, &before, 65536)
+        && shown.alike(&call, &before, text.len())
+        && (text.len() == 0 || shown.alike(&call, &before, text.len() - 1))
 }

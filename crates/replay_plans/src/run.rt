@@ -46,14 +46,14 @@ fn with_more(store: MaskStore, bytes: &[u8]) -> MaskStore {
     added.store
 }
 
-// The plan of a case in the front of a buffer, with the word that a run changes: how many words the plan has.
+// The plan of a case in the front of a buffer, with the word that a run changes: how many words the plan has, if it has room.
 fn give(host: &[u8], case: &[u8], plan: &mut [u16]) -> Option<usize> {
-    let n = vectors::cases::words(host, 3, plan)?;
+    let n = vectors::cases::words(host, 3, plan);
     let i = number(case, 2);
     if i < plan.len() {
         plan[i] = half(case, 3);
     }
-    Some(n)
+    n
 }
 
 // Run i by the words that it is given; and by more words, if it is given all of the plan, and a store with a class more, if it has the one that planning
@@ -71,7 +71,8 @@ fn by_plan(given: &Planned<'_>, more: &Planned<'_>, case: &[u8], i: usize) -> bo
         }
 }
 
-// A run by the plan of the case to which it belongs.
+// A run by the plan of the case to which it belongs. A list tells the run too where that case's graph or plan is no runs or has no room: by a graph of no
+// words; by the plan's buffer as it is then, of which a word more than it has is no words.
 pub(crate) fn alike(turn: Turn<'_>) -> bool {
     let Turn {
         host,
@@ -79,13 +80,9 @@ pub(crate) fn alike(turn: Turn<'_>) -> bool {
         number: i,
     } = turn;
     let mut room: [u16; GRAPH] = vectors::room(0);
-    let Some(n) = vectors::cases::words(host, 0, &mut room) else {
-        return false;
-    };
+    let n = vectors::cases::words(host, 0, &mut room).unwrap_or(0);
     let mut plan: [u16; PLAN] = vectors::room(pattern(host));
-    let Some(held) = give(host, case, &mut plan) else {
-        return false;
-    };
+    let held = give(host, case, &mut plan).unwrap_or(PLAN + 1);
     let words = number(case, 1);
     // the graph's first word, in its first run
     let states = vectors::half(part(host, 0), 2);

@@ -8,9 +8,10 @@ use vectors::cases::{number, part};
 // Room for a tree of 1,024 records and more.
 const TREE: usize = 8192;
 
-// The words that bytes are, four each, into the front of a lent buffer, as far as there is room.
+// The words that bytes are, four each, into the front of a lent buffer of zeros, as far as there is room.
 fn unpack(bytes: &[u8], tree: &mut [u32]) {
-    for (k, word) in tree.iter_mut().enumerate() {
+    let n = tree.len().min(bytes.len() / 4 + 1);
+    for (k, word) in tree[..n].iter_mut().enumerate() {
         *word = vectors::word(bytes, 4 * k) as u32;
     }
 }

@@ -34,13 +34,12 @@ fn scanning<'a>(graph: &'a [u16], case: &'a [u8], offset: usize) -> Scanning<'a>
 }
 
 // A text of a table, by the table, by its graph words, and by the whole buffer that it was built into. Of a clean table, table and graph read the same.
-fn table_alike(turn: Turn<'_>, table: &[u16], whole: &[u16]) -> bool {
+fn table_alike(turn: Turn<'_>, table: &[u16], graph: &[u16], whole: &[u16]) -> bool {
     let Turn {
         host,
         case,
         number: i,
     } = turn;
-    let graph = front(whole, 2 + 258 * number(host, 2));
     let text = part(case, 0);
     shaped(case, 2, 2)
         && read_table(table, text) == Ok(reading(number(case, 0)))
@@ -60,7 +59,9 @@ pub(crate) fn of_table(turn: Turn<'_>) -> bool {
     let Some(g) = words(turn.host, 1, &mut buffer) else {
         return false;
     };
-    table_alike(turn, front(&table, n), front(&buffer, g))
+    // (Of the room: the words may be more than the list has, and 0 then.)
+    let graph = front(&buffer, 2 + 258 * number(turn.host, 2));
+    table_alike(turn, front(&table, n), graph, front(&buffer, g))
 }
 
 // The scan of a text from an offset, which may be refused by 14.
@@ -115,7 +116,9 @@ pub(crate) fn graph_alike(case: &[u8]) -> bool {
     let text = part(case, 0);
     shaped(case, 1, 1)
         && match answer(number(case, 0), ()) {
-            Some(Ok(())) => read_graph(graph, text).is_ok(),
+            // (A list has no end above a half.)
+            Some(Ok(())) => read_graph(graph, text).is_ok_and(|found| found.is_none_or(|f| f.end
+                <= 65535)),
             Some(Err(Refusal::GraphForm)) => unfit(graph, text),
             _ => false,
         }

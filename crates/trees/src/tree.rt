@@ -148,6 +148,10 @@ pub fn fits(tree: &[u32], bytes: &[u8]) -> bool
     if last.next != 0 {
         return false;
     }
+    // A root alone, as a literal is: no array of 2 KB is made for it.
+    if n == 1 {
+        return true;
+    }
     let times = times_named(tree);
     each_once(&times, n)
 }

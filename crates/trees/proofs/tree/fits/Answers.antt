@@ -1,5 +1,7 @@
 -- `trees::tree::fits` meets its contract: its tests are the rules of a tree, in the order of `Check`. Assumes nothing.
-use Rattle.std.proofs.Common.{sym, ◌∙◌}
+use Rattle.std.proofs.Common.{◌≡◌, refl, sym, ◌∙◌, true, ◌-◌, eqb, get_or}
+use Rattle.lists.specs.Lists.{tab, all_l}
+use Rattle.trees.specs.Tree.{count, named}
 use Rattle.trees.proofs.Check.{numbered, part-record, no_record, over-most, wrong-record, root-goes-on, named-rightly}
 use Rattle.trees.proofs.tree.fits.Goals as goal
 
@@ -20,6 +22,13 @@ pub returns-then-last-ne0 : goal.returns-then-last-ne0
 returns-then-last-ne0 c =
     root-goes-on _ _ c.if-tree-ne0.false c.if-n-eq0.false c.if-n-gt-RECORDS.false (sym c.records_fit.ensures ∙ c.if-not-records_fit.false)
     c.record_at-last.result c.record_at-last.ensures c.if-last-ne0.true
+
+pub returns-then-n-eq1 : goal.returns-then-n-eq1
+returns-then-n-eq1 c =
+    let w = c.args.tree.now in
+    let alone : true ≡ all_l (λ i. eqb (get_or (tab 0 1025 (named w)) i 0) 1) (tab 1 (count w - 1) (λ i. i)) = rw c.if-n-eq1.true refl in
+    named-rightly _ _ c.if-tree-ne0.false c.if-n-eq0.false c.if-n-gt-RECORDS.false (sym c.records_fit.ensures ∙ c.if-not-records_fit.false)
+    c.record_at-last.result c.record_at-last.ensures c.if-last-ne0.false (tab 0 1025 (named w)) refl true alone
 
 pub times_named-times-requires : goal.times_named-times-requires
 times_named-times-requires c = numbered _ _ (sym c.records_fit.ensures ∙ c.if-not-records_fit.false) c.if-n-gt-RECORDS.false
