@@ -7,7 +7,7 @@
  *
  * prints a line a call, its bytes and its name, as
  *
- *   276856 build
+ *   276808 build
  */
 #define _GNU_SOURCE
 #include <stdio.h>

@@ -11,7 +11,8 @@
  *
  * Memory. Nothing is allocated, nothing is kept between calls, and there is no global state: calls on different memory may run at once. Stack, as
  * measured (examples/stack.c), in KB of 1,024 bytes and rounded up: balthwyr_build_image 335, balthwyr_build 271, balthwyr_priority 65,
- * balthwyr_scan_planned 59, balthwyr_run 59, balthwyr_plan 39, balthwyr_render_luts 8, every other function less than 7.
+ * balthwyr_scan_planned 45, balthwyr_run 45, balthwyr_plan 25, balthwyr_check_for_greedy_all 9, balthwyr_render_luts 8, every other function
+ * less than 7.
  *
  * Time. Graph words are checked whole at every call that takes them, and so are store and plan: a call on a short text pays for all states of the
  * graph before it reads a byte. With 55 states a reading of ten bytes takes 0.13 million instructions by the graph and 1.3 million by the plan, with
