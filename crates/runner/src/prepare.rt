@@ -62,7 +62,9 @@ pub fn prepare(graph: Graph<'_>, edges: &mut [Edge])
     for s in 0..graph.states() {
         let fork = fork_at(graph, s);
         let tabled = fork.by_table();
-        edges[edge_place(s, 0)] = edge_to(graph, s, fork.lowest[0], tabled);
-        edges[edge_place(s, 1)] = edge_to(graph, s, fork.lowest[1], tabled);
+        let first = edge_to(graph, s, fork.lowest[0], tabled);
+        let second = edge_to(graph, s, fork.lowest[1], tabled);
+        edges[edge_place(s, 0)] = first;
+        edges[edge_place(s, 1)] = second;
     }
 }
